@@ -37,12 +37,6 @@ loop-w-preserved g c =
 pub returns-clause-value : goal.returns-clause-value
 returns-clause-value g c = c.loop-w.invariant.free ∙ ap length (whole c.args.shape.now (g.V.Blocks.seen c.args.v.now).words c.loop-w.w (omega arith))
 
-pub free_bits-requires-clause-sound : goal.free_bits-requires-clause-sound
-free_bits-requires-clause-sound g c = c.loop-w.invariant.sound
-
-pub free_bits-requires-clause-shape : goal.free_bits-requires-clause-shape
-free_bits-requires-clause-shape g c = c.loop-w.invariant.shape
-
 pub free_bits-requires-clause-run : goal.free_bits-requires-clause-run
 free_bits-requires-clause-run g c = λ on. subst (λ (f : BlockWords). HoldsRun c.args.shape.now f c.loop-w.w c.loop-w.run) (sym c.loop-w.invariant.looks.words) (c.loop-w.invariant.run on)
 
@@ -58,37 +52,16 @@ returns-in_err-free-clause-value g c = IfOk-from_err c.from_residual.result _ c.
 pub returns-in_err-free-clause-looks : goal.returns-in_err-free-clause-looks
 returns-in_err-free-clause-looks g c = looks_trans _ _ _ c.loop-w.invariant.looks c.free_bits.ensures.looks
 
-pub returns-in_err-free-clause-shape : goal.returns-in_err-free-clause-shape
-returns-in_err-free-clause-shape g c = c.free_bits.ensures.shape
-
 pub returns-in_err-free-clause-caches : goal.returns-in_err-free-clause-caches
 returns-in_err-free-clause-caches g c = caches_trans _ _ _ _ _ c.loop-w.invariant.caches c.free_bits.ensures.caches
 
 pub returns-in_err-free-clause-passes : goal.returns-in_err-free-clause-passes
 returns-in_err-free-clause-passes g c = g.met.V.Blocks.passes_trans _ _ _ c.loop-w.invariant.passes c.free_bits.ensures.passes
 
-pub returns-in_err-free-clause-sound : goal.returns-in_err-free-clause-sound
-returns-in_err-free-clause-sound g c = c.free_bits.ensures.sound
-
 pub returns-in_err-free-clause-ends : goal.returns-in_err-free-clause-ends
 returns-in_err-free-clause-ends g c =
     let p = err_from_is_err_and c.from_residual.result c.from_residual.ensures.1 in
     ends_failed _ _ _ c.free_bits.result c.from_residual.result _ _ c.in_err-free.was p.1 p.2 c.loop-w.invariant.later c.loop-w.invariant.running c.free_bits.ensures.ends
-
-pub returns-clause-looks : goal.returns-clause-looks
-returns-clause-looks g c = c.loop-w.invariant.looks
-
-pub returns-clause-shape : goal.returns-clause-shape
-returns-clause-shape g c = c.loop-w.invariant.shape
-
-pub returns-clause-caches : goal.returns-clause-caches
-returns-clause-caches g c = c.loop-w.invariant.caches
-
-pub returns-clause-passes : goal.returns-clause-passes
-returns-clause-passes g c = c.loop-w.invariant.passes
-
-pub returns-clause-sound : goal.returns-clause-sound
-returns-clause-sound g c = c.loop-w.invariant.sound
 
 pub returns-clause-ends : goal.returns-clause-ends
 returns-clause-ends g c = ends_ran _ _ _ c.loop-w.invariant.later c.loop-w.invariant.running

@@ -23,17 +23,8 @@ returns-clause-marks g c =
     marks_one c.args.shape.now c.args.b.0 _ _ _ _ _ _ _ _ _ (omega arith) (one_bit _ c.in_ok-word.word _ _ _ now.value c.with_bit.ensures)
     now.looks now.caches now.update now.standing now.firm end.ok end.either end.drops end.update end.in_update end.standing end.firm
 
-pub touched_word-requires-clause-sound : goal.touched_word-requires-clause-sound
-touched_word-requires-clause-sound g c = c.requires.sound
-
-pub touched_word-requires-clause-shape : goal.touched_word-requires-clause-shape
-touched_word-requires-clause-shape g c = c.requires.shape
-
 pub touched_word-requires-clause-place : goal.touched_word-requires-clause-place
 touched_word-requires-clause-place g c = omega (arith, c.requires.block, c.requires.shape.sizes.blocks_to)
-
-pub edit-requires-clause-sound : goal.edit-requires-clause-sound
-edit-requires-clause-sound g c = c.in_ok-word.ensures.sound
 
 pub edit-requires-clause-place : goal.edit-requires-clause-place
 edit-requires-clause-place g c = record { block = omega (arith, c.in_ok-word.ensures.shape.count, c.in_ok-word.ensures.shape.sizes.blocks_from); word = omega (arith, c.requires.block, c.requires.shape.sizes.blocks_to) }
@@ -41,23 +32,11 @@ edit-requires-clause-place g c = record { block = omega (arith, c.in_ok-word.ens
 pub overflow_cast-w : goal.overflow_cast-w
 overflow_cast-w g c = omega (arith, c.requires.block, c.requires.shape.sizes.blocks_to)
 
-pub returns-in_err-word-clause-shape : goal.returns-in_err-word-clause-shape
-returns-in_err-word-clause-shape g c = c.touched_word.ensures.shape
-
-pub returns-in_err-word-clause-goes : goal.returns-in_err-word-clause-goes
-returns-in_err-word-clause-goes g c = c.touched_word.ensures.goes
-
-pub returns-in_err-word-clause-sound : goal.returns-in_err-word-clause-sound
-returns-in_err-word-clause-sound g c = c.touched_word.ensures.sound
-
 pub returns-in_err-word-clause-ends : goal.returns-in_err-word-clause-ends
 returns-in_err-word-clause-ends g c = halts_told _ _ c.in_err-word.field-0.0 c.from_residual.result c.from_residual.ensures.0 c.in_err-word.ensures.ends
 
 pub returns-clause-shape : goal.returns-clause-shape
 returns-clause-shape g c = shape_dropped c.args.shape.now _ _ c.in_ok-word.ensures.shape c.edit.ensures.count c.edit.ensures.drops
-
-pub returns-clause-sound : goal.returns-clause-sound
-returns-clause-sound g c = c.edit.ensures.sound
 
 pub returns-clause-goes : goal.returns-clause-goes
 returns-clause-goes g c = goes_trans _ _ _ _ _ _ c.in_ok-word.ensures.goes c.edit.ensures.goes

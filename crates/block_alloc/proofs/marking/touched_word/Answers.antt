@@ -5,14 +5,8 @@ use Rattle.rio_base.proofs.BlockRules.{metadata}
 use Rattle.std.proofs.Common.{arith}
 use Rattle.block_alloc.proofs.marking.touched_word.Goals as goal
 
-pub returns-in-Ok-clause-looks : goal.returns-in-Ok-clause-looks
-returns-in-Ok-clause-looks g c = c.word.ensures.looks
-
 pub returns-in-Ok-clause-shape : goal.returns-in-Ok-clause-shape
 returns-in-Ok-clause-shape g c = still_unnamed c.args.shape.now _ _ 1 c.requires.shape c.word.ensures.looks.count c.word.ensures.caches
-
-pub returns-in-Ok-clause-caches : goal.returns-in-Ok-clause-caches
-returns-in-Ok-clause-caches g c = c.word.ensures.caches
 
 pub returns-in-Ok-clause-standing : goal.returns-in-Ok-clause-standing
 returns-in-Ok-clause-standing g c = (g.met.V.Volume.passes_keeps _ _ c.word.ensures.passes).standing
@@ -29,23 +23,11 @@ returns-in-Ok-clause-in_update g c = (g.met.V.Volume.passes_keeps _ _ c.word.ens
 pub returns-in-Ok-clause-goes : goal.returns-in-Ok-clause-goes
 returns-in-Ok-clause-goes g c = (g.met.V.Volume.passes_keeps _ _ c.word.ensures.passes).goes
 
-pub returns-in-Ok-clause-sound : goal.returns-in-Ok-clause-sound
-returns-in-Ok-clause-sound g c = c.word.ensures.sound
-
-pub returns-in-Ok-clause-value : goal.returns-in-Ok-clause-value
-returns-in-Ok-clause-value g c = c.in-Ok.ensures.value
-
 pub returns-in-Ok-clause-ends : goal.returns-in-Ok-clause-ends
 returns-in-Ok-clause-ends g c = halts_ok _ _ c.in-Ok.word _ c.in-Ok.ensures.ends
 
-pub returns-in-Err-Stopped-clause-looks : goal.returns-in-Err-Stopped-clause-looks
-returns-in-Err-Stopped-clause-looks g c = c.word.ensures.looks
-
 pub returns-in-Err-Stopped-clause-shape : goal.returns-in-Err-Stopped-clause-shape
 returns-in-Err-Stopped-clause-shape g c = still_unnamed c.args.shape.now _ _ 1 c.requires.shape c.word.ensures.looks.count c.word.ensures.caches
-
-pub returns-in-Err-Stopped-clause-caches : goal.returns-in-Err-Stopped-clause-caches
-returns-in-Err-Stopped-clause-caches g c = c.word.ensures.caches
 
 pub returns-in-Err-Stopped-clause-standing : goal.returns-in-Err-Stopped-clause-standing
 returns-in-Err-Stopped-clause-standing g c = (g.met.V.Volume.passes_keeps _ _ c.word.ensures.passes).standing
@@ -62,17 +44,8 @@ returns-in-Err-Stopped-clause-in_update g c = (g.met.V.Volume.passes_keeps _ _ c
 pub returns-in-Err-Stopped-clause-goes : goal.returns-in-Err-Stopped-clause-goes
 returns-in-Err-Stopped-clause-goes g c = (g.met.V.Volume.passes_keeps _ _ c.word.ensures.passes).goes
 
-pub returns-in-Err-Stopped-clause-sound : goal.returns-in-Err-Stopped-clause-sound
-returns-in-Err-Stopped-clause-sound g c = c.word.ensures.sound
-
-pub returns-in-Err-Stopped-clause-value : goal.returns-in-Err-Stopped-clause-value
-returns-in-Err-Stopped-clause-value g c = tt
-
 pub returns-in-Err-Stopped-clause-ends : goal.returns-in-Err-Stopped-clause-ends
 returns-in-Err-Stopped-clause-ends g c = halts_stopped _ _ c.in-Err-Stopped.field-0 _ c.in-Err-Stopped.field-0-is c.in-Err-Stopped.ensures.ends
-
-pub word-requires-clause-sound : goal.word-requires-clause-sound
-word-requires-clause-sound g c = c.requires.sound
 
 pub word-requires-clause-name : goal.word-requires-clause-name
 word-requires-clause-name g c = metadata c.args.shape.now _ 1 c.requires.shape (omega arith)

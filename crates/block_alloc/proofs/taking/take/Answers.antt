@@ -16,12 +16,6 @@ use Rattle.rio_base.proofs.Rules.{looks_refl}
 use Rattle.block_alloc.proofs.taking.take.Goals.{then-loop-w-test+else-len-n, else-loop-w-test}
 use Rattle.block_alloc.proofs.taking.take.Goals as goal
 
-pub free_bits-requires-clause-sound : goal.free_bits-requires-clause-sound
-free_bits-requires-clause-sound g c = c.loop-w.invariant.sound
-
-pub free_bits-requires-clause-shape : goal.free_bits-requires-clause-shape
-free_bits-requires-clause-shape g c = c.loop-w.invariant.shape
-
 pub free_bits-requires-clause-run : goal.free_bits-requires-clause-run
 free_bits-requires-clause-run g c = λ on. subst (λ (f : BlockWords). HoldsRun c.args.shape.now f c.loop-w.w c.loop-w.run) (sym c.loop-w.invariant.looks.words) (c.loop-w.invariant.run on)
 
@@ -56,17 +50,11 @@ returns-in_err-free-clause-no_space g c =
 pub returns-in_err-free-clause-looks : goal.returns-in_err-free-clause-looks
 returns-in_err-free-clause-looks g c = looks_trans _ _ _ c.loop-w.invariant.looks c.free_bits.ensures.looks
 
-pub returns-in_err-free-clause-shape : goal.returns-in_err-free-clause-shape
-returns-in_err-free-clause-shape g c = c.free_bits.ensures.shape
-
 pub returns-in_err-free-clause-caches : goal.returns-in_err-free-clause-caches
 returns-in_err-free-clause-caches g c = caches_trans _ _ _ _ _ c.loop-w.invariant.caches c.free_bits.ensures.caches
 
 pub returns-in_err-free-clause-passes : goal.returns-in_err-free-clause-passes
 returns-in_err-free-clause-passes g c = g.met.V.Blocks.passes_trans _ _ _ c.loop-w.invariant.passes c.free_bits.ensures.passes
-
-pub returns-in_err-free-clause-sound : goal.returns-in_err-free-clause-sound
-returns-in_err-free-clause-sound g c = c.free_bits.ensures.sound
 
 pub returns-in_err-free-clause-ends : goal.returns-in_err-free-clause-ends
 returns-in_err-free-clause-ends g c =
@@ -87,28 +75,16 @@ returns-in_err-push_free-clause-no_space g c =
 pub returns-in_err-push_free-clause-looks : goal.returns-in_err-push_free-clause-looks
 returns-in_err-push_free-clause-looks g c = looks_trans _ _ _ c.loop-w.invariant.looks c.free_bits.ensures.looks
 
-pub returns-in_err-push_free-clause-shape : goal.returns-in_err-push_free-clause-shape
-returns-in_err-push_free-clause-shape g c = c.free_bits.ensures.shape
-
 pub returns-in_err-push_free-clause-caches : goal.returns-in_err-push_free-clause-caches
 returns-in_err-push_free-clause-caches g c = caches_trans _ _ _ _ _ c.loop-w.invariant.caches c.free_bits.ensures.caches
 
 pub returns-in_err-push_free-clause-passes : goal.returns-in_err-push_free-clause-passes
 returns-in_err-push_free-clause-passes g c = g.met.V.Blocks.passes_trans _ _ _ c.loop-w.invariant.passes c.free_bits.ensures.passes
 
-pub returns-in_err-push_free-clause-sound : goal.returns-in_err-push_free-clause-sound
-returns-in_err-push_free-clause-sound g c = c.free_bits.ensures.sound
-
 pub returns-in_err-push_free-clause-ends : goal.returns-in_err-push_free-clause-ends
 returns-in_err-push_free-clause-ends g c =
     let p = err_from_is_err_and c.from_residual-in_err-push_free.result c.from_residual-in_err-push_free.ensures.1 in
     ends_memory _ _ _ c.from_residual-in_err-push_free.result _ p.1 p.2 c.loop-w.invariant.later c.loop-w.invariant.running c.free_bits.ensures.ends.later c.in_ok-free.ensures.ends.cause
-
-pub returns-then-len-n-2-clause-value : goal.returns-then-len-n-2-clause-value
-returns-then-len-n-2-clause-value g c = tt
-
-pub returns-then-len-n-2-clause-room : goal.returns-then-len-n-2-clause-room
-returns-then-len-n-2-clause-room g c = tt
 
 pub returns-then-len-n-2-clause-no_space : goal.returns-then-len-n-2-clause-no_space
 returns-then-len-n-2-clause-no_space g c = λ is.
@@ -117,21 +93,6 @@ returns-then-len-n-2-clause-no_space g c = λ is.
       | then-loop-w-test+else-len-n w ↦ absurd (omega arith)
       | else-loop-w-test w ↦ too_few c.args.shape.now words c.loop-w.w c.args.n c.loop-w.found.items (omega arith) c.loop-w.invariant.found (omega arith)
     ]
-
-pub returns-then-len-n-2-clause-looks : goal.returns-then-len-n-2-clause-looks
-returns-then-len-n-2-clause-looks g c = c.loop-w.invariant.looks
-
-pub returns-then-len-n-2-clause-shape : goal.returns-then-len-n-2-clause-shape
-returns-then-len-n-2-clause-shape g c = c.loop-w.invariant.shape
-
-pub returns-then-len-n-2-clause-caches : goal.returns-then-len-n-2-clause-caches
-returns-then-len-n-2-clause-caches g c = c.loop-w.invariant.caches
-
-pub returns-then-len-n-2-clause-passes : goal.returns-then-len-n-2-clause-passes
-returns-then-len-n-2-clause-passes g c = c.loop-w.invariant.passes
-
-pub returns-then-len-n-2-clause-sound : goal.returns-then-len-n-2-clause-sound
-returns-then-len-n-2-clause-sound g c = c.loop-w.invariant.sound
 
 pub returns-then-len-n-2-clause-ends : goal.returns-then-len-n-2-clause-ends
 returns-then-len-n-2-clause-ends g c = ends_none _ _ c.loop-w.invariant.later c.loop-w.invariant.running
@@ -144,21 +105,6 @@ returns-clause-room g c = (enough c.args.shape.now (g.V.Blocks.seen c.args.v.now
 
 pub returns-clause-no_space : goal.returns-clause-no_space
 returns-clause-no_space g c = λ is. absurd (never _ _ is)
-
-pub returns-clause-looks : goal.returns-clause-looks
-returns-clause-looks g c = c.loop-w.invariant.looks
-
-pub returns-clause-shape : goal.returns-clause-shape
-returns-clause-shape g c = c.loop-w.invariant.shape
-
-pub returns-clause-caches : goal.returns-clause-caches
-returns-clause-caches g c = c.loop-w.invariant.caches
-
-pub returns-clause-passes : goal.returns-clause-passes
-returns-clause-passes g c = c.loop-w.invariant.passes
-
-pub returns-clause-sound : goal.returns-clause-sound
-returns-clause-sound g c = c.loop-w.invariant.sound
 
 pub returns-clause-ends : goal.returns-clause-ends
 returns-clause-ends g c = ends_well _ _ _ c.loop-w.invariant.later c.loop-w.invariant.running

@@ -4,29 +4,11 @@ use Rattle.std.proofs.Common.{◌≡◌, length, length-take}
 use Rattle.block_alloc.proofs.Free.{run_read}
 use Rattle.block_alloc.proofs.words.fill_run.Goals as goal
 
-pub read_run-requires-clause-sound : goal.read_run-requires-clause-sound
-read_run-requires-clause-sound g c = c.requires.sound
-
 pub read_run-requires-clause-name : goal.read_run-requires-clause-name
 read_run-requires-clause-name g c = metadata c.args.shape.now _ 1 c.requires.shape (omega arith)
 
 pub returns-clause-shape : goal.returns-clause-shape
 returns-clause-shape g c = still_unnamed c.args.shape.now _ _ 1 c.requires.shape c.read_run.ensures.looks.count c.read_run.ensures.caches
-
-pub returns-clause-looks : goal.returns-clause-looks
-returns-clause-looks g c = c.read_run.ensures.looks
-
-pub returns-clause-caches : goal.returns-clause-caches
-returns-clause-caches g c = c.read_run.ensures.caches
-
-pub returns-clause-passes : goal.returns-clause-passes
-returns-clause-passes g c = c.read_run.ensures.passes
-
-pub returns-clause-ends : goal.returns-clause-ends
-returns-clause-ends g c = c.read_run.ensures.ends
-
-pub returns-clause-sound : goal.returns-clause-sound
-returns-clause-sound g c = c.read_run.ensures.sound
 
 pub returns-clause-run : goal.returns-clause-run
 returns-clause-run g c =

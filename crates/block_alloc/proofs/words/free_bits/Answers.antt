@@ -8,21 +8,6 @@ use Rattle.block_alloc.proofs.Ends.{ends_err, ends_ok, ends_ran}
 use Rattle.std.proofs.Common.{◌∙◌, ap, slice_index, sym}
 use Rattle.block_alloc.proofs.words.free_bits.Goals as goal
 
-pub fill_run-requires-clause-sound : goal.fill_run-requires-clause-sound
-fill_run-requires-clause-sound g c = c.requires.sound
-
-pub fill_run-requires-clause-shape : goal.fill_run-requires-clause-shape
-fill_run-requires-clause-shape g c = c.requires.shape
-
-pub fill_run-requires-clause-within : goal.fill_run-requires-clause-within
-fill_run-requires-clause-within g c = c.requires.within
-
-pub free_of-requires-clause-within : goal.free_of-requires-clause-within
-free_of-requires-clause-within g c = c.requires.within
-
-pub free_of-requires-2-clause-within : goal.free_of-requires-2-clause-within
-free_of-requires-2-clause-within g c = c.requires.within
-
 pub free_of-requires-clause-word : goal.free_of-requires-clause-word
 free_of-requires-clause-word g c = omega (arith, c.requires.within, c.requires.shape.sizes.blocks_to)
 
@@ -44,9 +29,6 @@ returns-then-place-ne0-clause-run g c = c.requires.run c.if-place-ne0.true
 pub returns-then-place-ne0-clause-looks : goal.returns-then-place-ne0-clause-looks
 returns-then-place-ne0-clause-looks g c = looks_refl _
 
-pub returns-then-place-ne0-clause-shape : goal.returns-then-place-ne0-clause-shape
-returns-then-place-ne0-clause-shape g c = c.requires.shape
-
 pub returns-then-place-ne0-clause-caches : goal.returns-then-place-ne0-clause-caches
 returns-then-place-ne0-clause-caches g c = caches_refl _ 1 None
 
@@ -55,9 +37,6 @@ returns-then-place-ne0-clause-passes g c = g.met.V.Blocks.passes_refl _
 
 pub returns-then-place-ne0-clause-ends : goal.returns-then-place-ne0-clause-ends
 returns-then-place-ne0-clause-ends g c = ends_ran _ _ _ (le_refl _) refl
-
-pub returns-then-place-ne0-clause-sound : goal.returns-then-place-ne0-clause-sound
-returns-then-place-ne0-clause-sound g c = c.requires.sound
 
 pub returns-in_err-fill_run-clause-value : goal.returns-in_err-fill_run-clause-value
 returns-in_err-fill_run-clause-value g c = IfOk-from_err c.from_residual.result _ c.from_residual.ensures.0
@@ -69,39 +48,6 @@ pub returns-in_err-fill_run-clause-ends : goal.returns-in_err-fill_run-clause-en
 returns-in_err-fill_run-clause-ends g c =
     let p = err_from_is_err_and c.from_residual.result c.from_residual.ensures.1 in
     ends_err _ _ c.fill_run.result c.from_residual.result _ _ c.in_err-fill_run.was p.1 p.2 c.fill_run.ensures.ends
-
-pub returns-in_err-fill_run-clause-looks : goal.returns-in_err-fill_run-clause-looks
-returns-in_err-fill_run-clause-looks g c = c.fill_run.ensures.looks
-
-pub returns-in_err-fill_run-clause-shape : goal.returns-in_err-fill_run-clause-shape
-returns-in_err-fill_run-clause-shape g c = c.fill_run.ensures.shape
-
-pub returns-in_err-fill_run-clause-caches : goal.returns-in_err-fill_run-clause-caches
-returns-in_err-fill_run-clause-caches g c = c.fill_run.ensures.caches
-
-pub returns-in_err-fill_run-clause-passes : goal.returns-in_err-fill_run-clause-passes
-returns-in_err-fill_run-clause-passes g c = c.fill_run.ensures.passes
-
-pub returns-in_err-fill_run-clause-sound : goal.returns-in_err-fill_run-clause-sound
-returns-in_err-fill_run-clause-sound g c = c.fill_run.ensures.sound
-
-pub returns-clause-looks : goal.returns-clause-looks
-returns-clause-looks g c = c.in_ok-fill_run.ensures.looks
-
-pub returns-clause-shape : goal.returns-clause-shape
-returns-clause-shape g c = c.in_ok-fill_run.ensures.shape
-
-pub returns-clause-caches : goal.returns-clause-caches
-returns-clause-caches g c = c.in_ok-fill_run.ensures.caches
-
-pub returns-clause-passes : goal.returns-clause-passes
-returns-clause-passes g c = c.in_ok-fill_run.ensures.passes
-
-pub returns-clause-sound : goal.returns-clause-sound
-returns-clause-sound g c = c.in_ok-fill_run.ensures.sound
-
-pub returns-clause-run : goal.returns-clause-run
-returns-clause-run g c = c.in_ok-fill_run.ensures.run
 
 pub returns-clause-ends : goal.returns-clause-ends
 returns-clause-ends g c = ends_ok _ _ c.in_ok-fill_run.field-0 _ c.in_ok-fill_run.ensures.ends

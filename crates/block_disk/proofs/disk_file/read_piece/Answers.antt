@@ -1,4 +1,4 @@
-use Rattle.std.proofs.Common.{arith, refl}
+use Rattle.std.proofs.Common.{arith}
 use Rattle.std.proofs.lemmas.Result.{err_from_is_err_and}
 use Rattle.block_disk.proofs.Ends.{fails_as, none_owed}
 use Rattle.block_disk.proofs.HostFiles.{long_less}
@@ -16,37 +16,10 @@ overflow_add-done g c = omega (arith, c.requires.within, c.requires.most)
 pub overflow_mul-done : goal.overflow_mul-done
 overflow_mul-done g c = omega (arith, c.requires.within, c.requires.most)
 
-pub returns-in_err-fill_piece-clause-files : goal.returns-in_err-fill_piece-clause-files
-returns-in_err-fill_piece-clause-files g c = c.fill_piece.ensures.files
-
-pub returns-in_err-fill_piece-clause-later : goal.returns-in_err-fill_piece-clause-later
-returns-in_err-fill_piece-clause-later g c = c.fill_piece.ensures.later
-
-pub returns-in_err-fill_piece-clause-room : goal.returns-in_err-fill_piece-clause-room
-returns-in_err-fill_piece-clause-room g c = c.fill_piece.ensures.room
-
 pub returns-in_err-fill_piece-clause-bytes : goal.returns-in_err-fill_piece-clause-bytes
 returns-in_err-fill_piece-clause-bytes g c = none_owed c.from_residual.result _ c.from_residual.ensures.0
-
-pub returns-in_err-fill_piece-clause-front : goal.returns-in_err-fill_piece-clause-front
-returns-in_err-fill_piece-clause-front g c = refl
-
-pub returns-in_err-fill_piece-clause-count : goal.returns-in_err-fill_piece-clause-count
-returns-in_err-fill_piece-clause-count g c = refl
 
 pub returns-in_err-fill_piece-clause-fails : goal.returns-in_err-fill_piece-clause-fails
 returns-in_err-fill_piece-clause-fails g c =
     let told = err_from_is_err_and c.from_residual.result c.from_residual.ensures.1 in
     fails_as c.from_residual.result _ _ _ _ _ told.1 told.2 c.in_err-fill_piece.ensures.fails
-
-pub returns-clause-files : goal.returns-clause-files
-returns-clause-files g c = c.fill_piece.ensures.files
-
-pub returns-clause-later : goal.returns-clause-later
-returns-clause-later g c = c.fill_piece.ensures.later
-
-pub returns-clause-room : goal.returns-clause-room
-returns-clause-room g c = c.fill_piece.ensures.room
-
-pub returns-clause-fails : goal.returns-clause-fails
-returns-clause-fails g c = tt

@@ -31,17 +31,5 @@ returns-in_err-read_piece-clause-fails g c =
 pub returns-in_err-read_piece-clause-later : goal.returns-in_err-read_piece-clause-later
 returns-in_err-read_piece-clause-later g c = le_trans c.pieces.invariant.later c.read_piece.ensures.later
 
-pub returns-clause-files : goal.returns-clause-files
-returns-clause-files g c = c.pieces.invariant.kept
-
 pub returns-clause-bytes : goal.returns-clause-bytes
 returns-clause-bytes g c = front_all _ _ _ _ _ c.requires.size c.pieces.invariant.count (omega (arith, c.pieces.invariant.within, c.pieces.invariant.count, c.pieces-test.false)) c.pieces.invariant.front
-
-pub returns-clause-count : goal.returns-clause-count
-returns-clause-count g c = c.pieces.invariant.count
-
-pub returns-clause-fails : goal.returns-clause-fails
-returns-clause-fails g c = tt
-
-pub returns-clause-later : goal.returns-clause-later
-returns-clause-later g c = c.pieces.invariant.later

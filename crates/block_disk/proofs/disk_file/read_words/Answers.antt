@@ -6,26 +6,11 @@ use Rattle.block_disk.proofs.disk_file.read_words.Goals as goal
 pub rooms-requires : goal.rooms-requires
 rooms-requires g c = (omega (arith, c.requires.long.least), omega (arith, c.requires.long.most))
 
-pub returns-in_default-clause-files : goal.returns-in_default-clause-files
-returns-in_default-clause-files g c = refl
-
-pub returns-in_default-clause-words : goal.returns-in_default-clause-words
-returns-in_default-clause-words g c = tt
-
-pub returns-in_default-clause-count : goal.returns-in_default-clause-count
-returns-in_default-clause-count g c = tt
-
 pub returns-in_default-clause-later : goal.returns-in_default-clause-later
 returns-in_default-clause-later g c = le_refl _
 
 pub returns-in_default-clause-fails : goal.returns-in_default-clause-fails
 returns-in_default-clause-fails g c = (8 * c.args.count, c.requires.size, c.requires.long)
-
-pub returns-in_err-read_pieces-clause-files : goal.returns-in_err-read_pieces-clause-files
-returns-in_err-read_pieces-clause-files g c = c.read_pieces.ensures.files
-
-pub returns-in_err-read_pieces-clause-later : goal.returns-in_err-read_pieces-clause-later
-returns-in_err-read_pieces-clause-later g c = c.read_pieces.ensures.later
 
 pub returns-in_err-read_pieces-clause-words : goal.returns-in_err-read_pieces-clause-words
 returns-in_err-read_pieces-clause-words g c = none_made c.from_residual.result _ c.from_residual.ensures.0
@@ -37,12 +22,3 @@ pub returns-in_err-read_pieces-clause-fails : goal.returns-in_err-read_pieces-cl
 returns-in_err-read_pieces-clause-fails g c =
     let told = err_from_is_err_and c.from_residual.result c.from_residual.ensures.1 in
     fails_as c.from_residual.result _ _ _ _ _ told.1 told.2 c.in_err-read_pieces.ensures.fails
-
-pub returns-clause-files : goal.returns-clause-files
-returns-clause-files g c = c.read_pieces.ensures.files
-
-pub returns-clause-later : goal.returns-clause-later
-returns-clause-later g c = c.read_pieces.ensures.later
-
-pub returns-clause-fails : goal.returns-clause-fails
-returns-clause-fails g c = tt

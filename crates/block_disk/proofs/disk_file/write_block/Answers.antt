@@ -4,18 +4,6 @@ use Rattle.block_disk.proofs.FileBlocks.{torn_fits, torn_others, written_fits, w
 use Rattle.block_disk.proofs.HostFiles.{around_torn, around_written}
 use Rattle.block_disk.proofs.disk_file.write_block.Goals as goal
 
-pub fill_room-requires-clause-block : goal.fill_room-requires-clause-block
-fill_room-requires-clause-block g c = c.requires.block
-
-pub fill_room-requires-clause-most : goal.fill_room-requires-clause-most
-fill_room-requires-clause-most g c = c.requires.most
-
-pub fill_room-requires-clause-room : goal.fill_room-requires-clause-room
-fill_room-requires-clause-room g c = c.requires.room
-
-pub returns-in_err-write_at-clause-room : goal.returns-in_err-write_at-clause-room
-returns-in_err-write_at-clause-room g c = c.fill_room.ensures.room
-
 pub returns-in_err-write_at-clause-fits : goal.returns-in_err-write_at-clause-fits
 returns-in_err-write_at-clause-fits g c = torn_fits _ _ _ _ c.args.b c.requires.block c.requires.fits (rw c.fill_room.ensures.room at c.in_err-write_at.ensures.err)
 
@@ -30,9 +18,6 @@ returns-in_err-write_at-clause-around g c = around_torn _ _ _ _ _ c.in_err-write
 
 pub returns-in_err-write_at-clause-cause : goal.returns-in_err-write_at-clause-cause
 returns-in_err-write_at-clause-cause g c = failed_on c.from_residual.result _ _ _ c.from_residual.ensures.0 (le_refl _) c.in_err-write_at.ensures.cause.later c.in_err-write_at.ensures.cause.cause
-
-pub returns-clause-room : goal.returns-clause-room
-returns-clause-room g c = c.fill_room.ensures.room
 
 pub returns-clause-fits : goal.returns-clause-fits
 returns-clause-fits g c = written_fits _ _ _ _ _ c.args.b c.fill_room.ensures.room c.requires.block c.requires.fits c.in_ok-write_at.ensures.ok

@@ -22,20 +22,8 @@ write_block-requires-clause-block g c =
     let lists = subst (λ (ns : List ℕ). Lists ns c.args.marked.now.marks.items) (sym c.numbers-numbers.ensures) c.args.marked.now.lists in
     omega (arith, listed_within _ _ lists c.loop-i.i c.loop-i-test.true, c.requires.marks)
 
-pub write_block-requires-clause-most : goal.write_block-requires-clause-most
-write_block-requires-clause-most g c = c.requires.most
-
-pub write_block-requires-clause-room : goal.write_block-requires-clause-room
-write_block-requires-clause-room g c = c.loop-i.invariant.room
-
-pub write_block-requires-clause-fits : goal.write_block-requires-clause-fits
-write_block-requires-clause-fits g c = c.loop-i.invariant.first.kept.fits
-
 pub loop-i-init : goal.loop-i-init
 loop-i-init g c = record { room = c.requires.room; first = written_none _ _ _ _ _ c.requires.file; around = refl; later = le_refl _ }
-
-pub returns-in_err-write_block-clause-room : goal.returns-in_err-write_block-clause-room
-returns-in_err-write_block-clause-room g c = c.write_block.ensures.room
 
 pub returns-in_err-write_block-clause-file : goal.returns-in_err-write_block-clause-file
 returns-in_err-write_block-clause-file g c =
@@ -51,19 +39,10 @@ returns-in_err-write_block-clause-around g c = c.write_block.ensures.around ∙ 
 pub returns-in_err-write_block-clause-cause : goal.returns-in_err-write_block-clause-cause
 returns-in_err-write_block-clause-cause g c = failed_on _ _ _ _ c.from_residual.ensures.0 c.loop-i.invariant.later c.write_block.ensures.cause.later c.in_err-write_block.ensures.cause.cause
 
-pub returns-clause-room : goal.returns-clause-room
-returns-clause-room g c = c.loop-i.invariant.room
-
-pub returns-clause-file : goal.returns-clause-file
-returns-clause-file g c = c.loop-i.invariant.first.kept
-
 pub returns-clause-all : goal.returns-clause-all
 returns-clause-all g c =
     let lists = subst (λ (ns : List ℕ). Lists ns c.args.marked.now.marks.items) (sym c.numbers-numbers.ensures) c.args.marked.now.lists in
     written_all _ _ _ _ _ _ c.loop-i.invariant.first lists (omega arith)
-
-pub returns-clause-around : goal.returns-clause-around
-returns-clause-around g c = c.loop-i.invariant.around
 
 pub returns-clause-cause : goal.returns-clause-cause
 returns-clause-cause g c = record { later = c.loop-i.invariant.later; cause = tt }

@@ -7,9 +7,6 @@ use Rattle.block_disk.proofs.host_disk.read_parts.Goals as goal
 pub read_words-requires-clause-size : goal.read_words-requires-clause-size
 read_words-requires-clause-size g c = same_size _ _ _ _ c.count_words.ensures.files c.in_ok-count.ensures.size
 
-pub read_words-requires-clause-long : goal.read_words-requires-clause-long
-read_words-requires-clause-long g c = c.in_ok-count.ensures.long
-
 pub returns-in_err-count-clause-words : goal.returns-in_err-count-clause-words
 returns-in_err-count-clause-words g c = none_made c.from_residual.result _ c.from_residual.ensures.0
 
@@ -40,37 +37,10 @@ returns-in_err-words-clause-unwritten g c = none_made c.from_residual-in_err-wor
 pub returns-in_err-words-clause-room : goal.returns-in_err-words-clause-room
 returns-in_err-words-clause-room g c = none_made c.from_residual-in_err-words.result _ c.from_residual-in_err-words.ensures.0
 
-pub returns-in_err-count-clause-files : goal.returns-in_err-count-clause-files
-returns-in_err-count-clause-files g c = c.count_words.ensures.files
-
-pub returns-in_err-count-clause-later : goal.returns-in_err-count-clause-later
-returns-in_err-count-clause-later g c = c.count_words.ensures.later
-
 pub returns-in_err-count-clause-fails : goal.returns-in_err-count-clause-fails
 returns-in_err-count-clause-fails g c =
     let told = err_from_is_err_and c.from_residual.result c.from_residual.ensures.1 in
     fails_as c.from_residual.result _ _ _ _ _ told.1 told.2 c.in_err-count.ensures.fails
-
-pub returns-in_default-clause-words : goal.returns-in_default-clause-words
-returns-in_default-clause-words g c = tt
-
-pub returns-in_default-clause-count : goal.returns-in_default-clause-count
-returns-in_default-clause-count g c = tt
-
-pub returns-in_default-clause-pending : goal.returns-in_default-clause-pending
-returns-in_default-clause-pending g c = tt
-
-pub returns-in_default-clause-unwritten : goal.returns-in_default-clause-unwritten
-returns-in_default-clause-unwritten g c = tt
-
-pub returns-in_default-clause-room : goal.returns-in_default-clause-room
-returns-in_default-clause-room g c = tt
-
-pub returns-in_default-clause-files : goal.returns-in_default-clause-files
-returns-in_default-clause-files g c = c.count_words.ensures.files
-
-pub returns-in_default-clause-later : goal.returns-in_default-clause-later
-returns-in_default-clause-later g c = c.count_words.ensures.later
 
 pub returns-in_default-clause-fails : goal.returns-in_default-clause-fails
 returns-in_default-clause-fails g c = (_, c.in_ok-count.ensures.size, c.in_ok-count.ensures.long)
@@ -92,14 +62,8 @@ returns-clause-files g c = c.read_words.ensures.files ∙ c.count_words.ensures.
 pub returns-clause-later : goal.returns-clause-later
 returns-clause-later g c = le_trans c.count_words.ensures.later c.read_words.ensures.later
 
-pub returns-clause-fails : goal.returns-clause-fails
-returns-clause-fails g c = tt
-
 pub returns-clause-words : goal.returns-clause-words
 returns-clause-words g c = same_words _ _ _ _ c.count_words.ensures.files c.in_ok-words.ensures.words
-
-pub returns-clause-room : goal.returns-clause-room
-returns-clause-room g c = c.in-Ok.ensures.room
 
 pub returns-clause-pending : goal.returns-clause-pending
 returns-clause-pending g c = c.in-Ok.ensures.pending ∙ ap (λ (n : ℕ). replicate (n / 512) false) (sym c.in_ok-words.ensures.count)

@@ -4,15 +4,6 @@ use Rattle.boots.proofs.BootRules.{planned_stopped}
 use Rattle.boots.proofs.Handing.{boot_done, boot_stands}
 use Rattle.boots.proofs.booting.run_boot.Goals as goal
 
-pub planned_board-board-requires-clause-pages : goal.planned_board-board-requires-clause-pages
-planned_board-board-requires-clause-pages c = c.requires.stand.1.whole_pages
-
-pub planned_board-board-requires-clause-room : goal.planned_board-board-requires-clause-room
-planned_board-board-requires-clause-room c = c.requires.stand.1.room
-
-pub planned_board-board-requires-clause-armed : goal.planned_board-board-requires-clause-armed
-planned_board-board-requires-clause-armed c = c.requires.plan.armed
-
 pub serve_machine-requires-clause-closed : goal.serve_machine-requires-clause-closed
 serve_machine-requires-clause-closed c = ap (λ (x : Contents). x.open_page) c.planned_board-board.ensures.contents
 

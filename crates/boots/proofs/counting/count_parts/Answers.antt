@@ -3,12 +3,6 @@ use Rattle.rio_base.specs.Machine.{Contents, Running}
 use Rattle.boots.proofs.PartsMachines.{parts_machine, parts_never}
 use Rattle.boots.proofs.counting.count_parts.Goals as goal
 
-pub board_of-requires-clause-pages : goal.board_of-requires-clause-pages
-board_of-requires-clause-pages c = c.requires.stand.1.whole_pages
-
-pub board_of-requires-clause-room : goal.board_of-requires-clause-room
-board_of-requires-clause-room c = c.requires.stand.1.room
-
 pub count_machine-requires-clause-closed : goal.count_machine-requires-clause-closed
 count_machine-requires-clause-closed c = ap (λ (x : Contents). x.open_page) c.board_of.ensures.contents
 

@@ -4,9 +4,6 @@ use Rattle.boots.proofs.FailedBoots.{failed_boot, words_kept}
 use Rattle.boots.proofs.PartsMachines.{standing_layout}
 use Rattle.boots.proofs.serving.serve_machine.Goals as goal
 
-pub boot-requires-clause-header : goal.boot-requires-clause-header
-boot-requires-clause-header g c = c.requires.standing.1.image.header
-
 pub boot-requires-clause-layout : goal.boot-requires-clause-layout
 boot-requires-clause-layout g c = standing_layout _ _ _ c.requires.standing.1
 

@@ -58,8 +58,5 @@ returns-in_err-install_clean-clause-unmade g c q = none_still c.args.b.0 (g.M.Ma
 pub returns-clause-unmade : goal.returns-clause-unmade
 returns-clause-unmade g c q = absurd (true_false (sym q))
 
-pub returns-in_err-install_clean-clause-still_order : goal.returns-in_err-install_clean-clause-still_order
-returns-in_err-install_clean-clause-still_order g c q = refl
-
 pub returns-clause-still_order : goal.returns-clause-still_order
 returns-clause-still_order g c q = absurd (true_false (sym q))

@@ -23,35 +23,8 @@ returns-clause-ends g c = ends_ok _ _ _ _ _ _ (never _ Stopped) (λ q. true_fals
 pub returns-clause-order : goal.returns-clause-order
 returns-clause-order g c = c.in_ok-bind_frame.ensures.order ∙ ap (λ (p : FramePool). used_last c.args.k (order_of p)) c.fill_frame.ensures.pool
 
-pub returns-in_err-fill_frame-clause-sound : goal.returns-in_err-fill_frame-clause-sound
-returns-in_err-fill_frame-clause-sound g c = c.fill_frame.ensures.sound
-
-pub returns-in_err-fill_frame-clause-keeps : goal.returns-in_err-fill_frame-clause-keeps
-returns-in_err-fill_frame-clause-keeps g c = c.fill_frame.ensures.keeps
-
-pub returns-in_err-fill_frame-clause-still : goal.returns-in_err-fill_frame-clause-still
-returns-in_err-fill_frame-clause-still g c = c.fill_frame.ensures.still
-
-pub returns-in_err-fill_frame-clause-touches : goal.returns-in_err-fill_frame-clause-touches
-returns-in_err-fill_frame-clause-touches g c = c.fill_frame.ensures.touches
-
-pub returns-in_err-fill_frame-clause-tables : goal.returns-in_err-fill_frame-clause-tables
-returns-in_err-fill_frame-clause-tables g c = c.fill_frame.ensures.tables
-
-pub returns-in_err-fill_frame-clause-stay : goal.returns-in_err-fill_frame-clause-stay
-returns-in_err-fill_frame-clause-stay g c = c.fill_frame.ensures.stay
-
-pub returns-in_err-fill_frame-clause-lasts : goal.returns-in_err-fill_frame-clause-lasts
-returns-in_err-fill_frame-clause-lasts g c = c.fill_frame.ensures.lasts
-
 pub returns-in_err-fill_frame-clause-adds : goal.returns-in_err-fill_frame-clause-adds
 returns-in_err-fill_frame-clause-adds g c = adds_narrows _ _ _ _ c.fill_frame.ensures.narrows
-
-pub returns-in_err-fill_frame-clause-unfetched : goal.returns-in_err-fill_frame-clause-unfetched
-returns-in_err-fill_frame-clause-unfetched g c fault = c.fill_frame.ensures.narrows
-
-pub bind_frame-requires-clause-sound : goal.bind_frame-requires-clause-sound
-bind_frame-requires-clause-sound g c = c.fill_frame.ensures.sound
 
 pub bind_frame-requires-clause-entry : goal.bind_frame-requires-clause-entry
 bind_frame-requires-clause-entry g c = subst (λ f. c.args.k < f) (sym (c.fill_frame.ensures.keeps.header 2 (omega arith))) c.requires.entry
@@ -64,15 +37,6 @@ bind_frame-requires-clause-block g c = subst (λ n. c.args.b.0 < n) (sym c.fill_
 
 pub bind_frame-requires-clause-uncached : goal.bind_frame-requires-clause-uncached
 bind_frame-requires-clause-uncached g c = none_still _ _ _ c.fill_frame.ensures.narrows c.requires.uncached
-
-pub bind_frame-requires-clause-name : goal.bind_frame-requires-clause-name
-bind_frame-requires-clause-name g c = c.requires.name
-
-pub bind_frame-requires-clause-home : goal.bind_frame-requires-clause-home
-bind_frame-requires-clause-home g c = c.in_ok-fill_frame.ensures.home
-
-pub returns-in_err-bind_frame-clause-sound : goal.returns-in_err-bind_frame-clause-sound
-returns-in_err-bind_frame-clause-sound g c = c.bind_frame.ensures.sound
 
 pub returns-in_err-bind_frame-clause-keeps : goal.returns-in_err-bind_frame-clause-keeps
 returns-in_err-bind_frame-clause-keeps g c = keeps_then _ _ _ c.fill_frame.ensures.keeps c.bind_frame.ensures.keeps
@@ -95,9 +59,6 @@ returns-in_err-bind_frame-clause-stay g c = stay_trans _ _ _ c.fill_frame.ensure
 pub returns-in_err-bind_frame-clause-lasts : goal.returns-in_err-bind_frame-clause-lasts
 returns-in_err-bind_frame-clause-lasts g c = lasts_then _ _ _ c.fill_frame.ensures.lasts c.bind_frame.ensures.lasts
 
-pub returns-clause-sound : goal.returns-clause-sound
-returns-clause-sound g c = c.bind_frame.ensures.sound
-
 pub returns-clause-keeps : goal.returns-clause-keeps
 returns-clause-keeps g c = keeps_then _ _ _ c.fill_frame.ensures.keeps c.bind_frame.ensures.keeps
 
@@ -119,17 +80,11 @@ returns-clause-stay g c = stay_trans _ _ _ c.fill_frame.ensures.stay c.bind_fram
 pub returns-clause-lasts : goal.returns-clause-lasts
 returns-clause-lasts g c = lasts_then _ _ _ c.fill_frame.ensures.lasts c.bind_frame.ensures.lasts
 
-pub returns-clause-found : goal.returns-clause-found
-returns-clause-found g c = c.in_ok-bind_frame.ensures.found
-
 pub returns-clause-unfetched : goal.returns-clause-unfetched
 returns-clause-unfetched g c q = absurd (never _ _ q)
 
 pub returns-clause-fault : goal.returns-clause-fault
 returns-clause-fault g c q = absurd (never _ _ q)
-
-pub returns-in_err-fill_frame-clause-marks : goal.returns-in_err-fill_frame-clause-marks
-returns-in_err-fill_frame-clause-marks g c = c.fill_frame.ensures.marks
 
 pub returns-in_err-bind_frame-clause-marks : goal.returns-in_err-bind_frame-clause-marks
 returns-in_err-bind_frame-clause-marks g c = marks_trans None _ _ _ c.fill_frame.ensures.marks c.bind_frame.ensures.marks

@@ -13,17 +13,11 @@ use Rattle.cached_pages.proofs.fetching.evict_frame.Goals as goal
 
 -- ---- the page was not brought out
 
-pub returns-in_err-prepare-clause-keeps : goal.returns-in_err-prepare-clause-keeps
-returns-in_err-prepare-clause-keeps g c = c.prepare.ensures.nears.keeps
-
 pub returns-in_err-prepare-clause-narrows : goal.returns-in_err-prepare-clause-narrows
 returns-in_err-prepare-clause-narrows g c = narrows_near _ _ _ _ c.prepare.ensures.nears
 
 pub returns-in_err-prepare-clause-touches : goal.returns-in_err-prepare-clause-touches
 returns-in_err-prepare-clause-touches g c = touches_words _ _ c.prepare.ensures.nears.words
-
-pub returns-in_err-prepare-clause-tables : goal.returns-in_err-prepare-clause-tables
-returns-in_err-prepare-clause-tables g c = c.prepare.ensures.nears.tables
 
 pub returns-in_err-prepare-clause-leaves : goal.returns-in_err-prepare-clause-leaves
 returns-in_err-prepare-clause-leaves g c = leaves_near c.args.k _ _ c.prepare.ensures.nears.words
@@ -34,22 +28,10 @@ returns-in_err-prepare-clause-marks g c = marks_same None _ _ c.prepare.ensures.
 pub returns-in_err-prepare-clause-order : goal.returns-in_err-prepare-clause-order
 returns-in_err-prepare-clause-order g c q = ap order_of c.prepare.ensures.nears.pool
 
-pub returns-in_err-prepare-clause-lasts : goal.returns-in_err-prepare-clause-lasts
-returns-in_err-prepare-clause-lasts g c = c.prepare.ensures.nears.lasts
-
 -- ---- its entry goes
-
-pub tag_of-requires-clause-coherent : goal.tag_of-requires-clause-coherent
-tag_of-requires-clause-coherent g c = c.prepare.ensures.sound.coherent
 
 pub tag_of-requires-clause-entry : goal.tag_of-requires-clause-entry
 tag_of-requires-clause-entry g c = (valid_near c.args.k _ _ _ _ c.prepare.ensures.nears c.requires.valid).within
-
-pub release-requires-clause-coherent : goal.release-requires-clause-coherent
-release-requires-clause-coherent g c = c.prepare.ensures.sound.coherent
-
-pub release-requires-clause-closed : goal.release-requires-clause-closed
-release-requires-clause-closed g c = c.prepare.ensures.sound.closed
 
 pub release-requires-clause-valid : goal.release-requires-clause-valid
 release-requires-clause-valid g c = valid_near c.args.k _ _ _ _ c.prepare.ensures.nears c.requires.valid
@@ -96,9 +78,6 @@ returns-in_err-release-clause-clean_entry g c = λ clean. still_trans _ _ _ (c.p
 
 pub returns-in_err-release-clause-touches : goal.returns-in_err-release-clause-touches
 returns-in_err-release-clause-touches g c = touches_trans _ _ _ (touches_words _ _ c.prepare.ensures.nears.words) (touches_held c.args.k _ _ c.release.ensures.one_entry c.in_err-release.ensures.held)
-
-pub returns-in_err-release-clause-tables : goal.returns-in_err-release-clause-tables
-returns-in_err-release-clause-tables g c = c.prepare.ensures.nears.tables
 
 pub returns-in_err-release-clause-leaves : goal.returns-in_err-release-clause-leaves
 returns-in_err-release-clause-leaves g c = released_leaves c.args.k _ (g.M.Machine.contents c.args.m.now) (g.M.Machine.contents c.prepare.new.m) (g.M.Machine.contents c.release.new.m) c.prepare.ensures.nears.words c.prepare.ensures.sound.coherent c.release.ensures.keeps c.release.ensures.one_entry

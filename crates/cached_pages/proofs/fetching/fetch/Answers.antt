@@ -34,9 +34,6 @@ returns-in-Some-clause-leaves g c = leaves_refl _ _
 pub returns-in-Some-clause-writes : goal.returns-in-Some-clause-writes
 returns-in-Some-clause-writes g c = few_still _ _ _ _ (still_refl _)
 
-pub returns-in-Some-clause-hit : goal.returns-in-Some-clause-hit
-returns-in-Some-clause-hit g c cached = refl
-
 pub returns-in-Some-clause-unfetched : goal.returns-in-Some-clause-unfetched
 returns-in-Some-clause-unfetched g c q = absurd (never _ _ q)
 
@@ -54,51 +51,6 @@ returns-in-Some-clause-marks g c = marks_refl None _
 
 pub returns-in-Some-clause-failed : goal.returns-in-Some-clause-failed
 returns-in-Some-clause-failed g c q = absurd (true_false (sym q))
-
-pub returns-clause-sound : goal.returns-clause-sound
-returns-clause-sound g c = c.fetch_absent.ensures.sound
-
-pub returns-clause-keeps : goal.returns-clause-keeps
-returns-clause-keeps g c = c.fetch_absent.ensures.keeps
-
-pub returns-clause-adds : goal.returns-clause-adds
-returns-clause-adds g c = c.fetch_absent.ensures.adds
-
-pub returns-clause-found : goal.returns-clause-found
-returns-clause-found g c = c.fetch_absent.ensures.found
-
-pub returns-clause-touches : goal.returns-clause-touches
-returns-clause-touches g c = c.fetch_absent.ensures.touches
-
-pub returns-clause-tables : goal.returns-clause-tables
-returns-clause-tables g c = c.fetch_absent.ensures.tables
-
-pub returns-clause-used : goal.returns-clause-used
-returns-clause-used g c = c.fetch_absent.ensures.used
-
-pub returns-clause-failed : goal.returns-clause-failed
-returns-clause-failed g c = c.fetch_absent.ensures.failed
-
-pub returns-clause-leaves : goal.returns-clause-leaves
-returns-clause-leaves g c = c.fetch_absent.ensures.leaves
-
-pub returns-clause-writes : goal.returns-clause-writes
-returns-clause-writes g c = c.fetch_absent.ensures.writes
-
-pub returns-clause-marks : goal.returns-clause-marks
-returns-clause-marks g c = c.fetch_absent.ensures.marks
-
-pub returns-clause-unfetched : goal.returns-clause-unfetched
-returns-clause-unfetched g c = c.fetch_absent.ensures.unfetched
-
-pub returns-clause-lasts : goal.returns-clause-lasts
-returns-clause-lasts g c = c.fetch_absent.ensures.lasts
-
-pub returns-clause-fault : goal.returns-clause-fault
-returns-clause-fault g c = c.fetch_absent.ensures.fault
-
-pub returns-clause-ends : goal.returns-clause-ends
-returns-clause-ends g c = c.fetch_absent.ensures.ends
 
 pub fetch_absent-requires-clause-uncached : goal.fetch_absent-requires-clause-uncached
 fetch_absent-requires-clause-uncached g c = none_bound _ _ _ _ c.requires.sound (c.in_default.ensures.none refl)

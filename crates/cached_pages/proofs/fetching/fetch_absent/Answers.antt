@@ -19,9 +19,6 @@ use Rattle.rio_base.proofs.MachineRules.{ends_then, ends_told, never}
 pub returns-clause-marks : goal.returns-clause-marks
 returns-clause-marks g c = marks_trans None _ _ _ c.make_room.ensures.marks c.bring.ensures.marks
 
-pub make_room-requires-clause-uncached : goal.make_room-requires-clause-uncached
-make_room-requires-clause-uncached g c = c.requires.uncached
-
 pub bring-requires-clause-uncached : goal.bring-requires-clause-uncached
 bring-requires-clause-uncached g c = none_still _ _ _ c.make_room.ensures.narrows c.requires.uncached
 
@@ -57,56 +54,11 @@ returns-clause-unfetched g c q = absurd (never _ _ q)
 pub returns-clause-fault : goal.returns-clause-fault
 returns-clause-fault g c q = absurd (never _ _ q)
 
-pub make_room-requires-clause-sound : goal.make_room-requires-clause-sound
-make_room-requires-clause-sound g c = c.requires.sound
-
-pub make_room-requires-clause-block : goal.make_room-requires-clause-block
-make_room-requires-clause-block g c = c.requires.block
-
-pub returns-in_err-k-clause-sound : goal.returns-in_err-k-clause-sound
-returns-in_err-k-clause-sound g c = c.make_room.ensures.sound
-
-pub returns-in_err-k-clause-keeps : goal.returns-in_err-k-clause-keeps
-returns-in_err-k-clause-keeps g c = c.make_room.ensures.keeps
-
-pub returns-in_err-k-clause-touches : goal.returns-in_err-k-clause-touches
-returns-in_err-k-clause-touches g c = c.make_room.ensures.touches
-
-pub returns-in_err-k-clause-tables : goal.returns-in_err-k-clause-tables
-returns-in_err-k-clause-tables g c = c.make_room.ensures.tables
-
-pub returns-in_err-k-clause-leaves : goal.returns-in_err-k-clause-leaves
-returns-in_err-k-clause-leaves g c = c.make_room.ensures.leaves
-
-pub returns-in_err-k-clause-writes : goal.returns-in_err-k-clause-writes
-returns-in_err-k-clause-writes g c = c.make_room.ensures.writes
-
-pub returns-in_err-k-clause-lasts : goal.returns-in_err-k-clause-lasts
-returns-in_err-k-clause-lasts g c = c.make_room.ensures.lasts
-
 pub returns-in_err-k-clause-adds : goal.returns-in_err-k-clause-adds
 returns-in_err-k-clause-adds g c = adds_narrows _ _ _ _ c.make_room.ensures.narrows
 
-pub returns-in_err-k-clause-unfetched : goal.returns-in_err-k-clause-unfetched
-returns-in_err-k-clause-unfetched g c fault = c.make_room.ensures.narrows
-
-pub bring-requires-clause-sound : goal.bring-requires-clause-sound
-bring-requires-clause-sound g c = c.make_room.ensures.sound
-
-pub bring-requires-clause-entry : goal.bring-requires-clause-entry
-bring-requires-clause-entry g c = c.in_ok-k.ensures.room.0
-
-pub bring-requires-clause-invalid : goal.bring-requires-clause-invalid
-bring-requires-clause-invalid g c = c.in_ok-k.ensures.room.1
-
 pub bring-requires-clause-block : goal.bring-requires-clause-block
 bring-requires-clause-block g c = subst (λ n. c.args.b.0 < n) (sym c.make_room.ensures.lasts.blocks) c.requires.block
-
-pub bring-requires-clause-name : goal.bring-requires-clause-name
-bring-requires-clause-name g c = c.requires.name
-
-pub returns-in_err-bring-clause-sound : goal.returns-in_err-bring-clause-sound
-returns-in_err-bring-clause-sound g c = c.bring.ensures.sound
 
 pub returns-in_err-bring-clause-keeps : goal.returns-in_err-bring-clause-keeps
 returns-in_err-bring-clause-keeps g c = keeps_then _ _ _ c.make_room.ensures.keeps c.bring.ensures.keeps
@@ -123,9 +75,6 @@ returns-in_err-bring-clause-tables g c = tables_trans _ _ _ c.make_room.ensures.
 pub returns-in_err-bring-clause-lasts : goal.returns-in_err-bring-clause-lasts
 returns-in_err-bring-clause-lasts g c = lasts_then _ _ _ c.make_room.ensures.lasts c.bring.ensures.lasts
 
-pub returns-clause-sound : goal.returns-clause-sound
-returns-clause-sound g c = c.bring.ensures.sound
-
 pub returns-clause-keeps : goal.returns-clause-keeps
 returns-clause-keeps g c = keeps_then _ _ _ c.make_room.ensures.keeps c.bring.ensures.keeps
 
@@ -140,12 +89,6 @@ returns-clause-tables g c = tables_trans _ _ _ c.make_room.ensures.tables c.brin
 
 pub returns-clause-lasts : goal.returns-clause-lasts
 returns-clause-lasts g c = lasts_then _ _ _ c.make_room.ensures.lasts c.bring.ensures.lasts
-
-pub returns-clause-found : goal.returns-clause-found
-returns-clause-found g c = c.in_ok-bring.ensures.found
-
-pub returns-in_err-k-clause-marks : goal.returns-in_err-k-clause-marks
-returns-in_err-k-clause-marks g c = c.make_room.ensures.marks
 
 pub returns-in_err-bring-clause-marks : goal.returns-in_err-bring-clause-marks
 returns-in_err-bring-clause-marks g c = marks_trans None _ _ _ c.make_room.ensures.marks c.bring.ensures.marks

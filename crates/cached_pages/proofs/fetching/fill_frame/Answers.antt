@@ -56,24 +56,6 @@ returns-in_err-fill-clause-stay g c = stay_filled (g.M.Machine.contents c.args.m
 pub returns-clause-stay : goal.returns-clause-stay
 returns-clause-stay g c = stay_filled (g.M.Machine.contents c.args.m.now) (g.M.Machine.contents c.read_home.new.m) c.args.k _ c.read_home.ensures.memory c.fill.ensures.one_page
 
-pub read_home-requires-clause-closed : goal.read_home-requires-clause-closed
-read_home-requires-clause-closed g c = c.requires.sound.closed
-
-pub read_home-requires-clause-block : goal.read_home-requires-clause-block
-read_home-requires-clause-block g c = c.requires.block
-
-pub read_home-requires-clause-room : goal.read_home-requires-clause-room
-read_home-requires-clause-room g c = c.requires.sound.buffer
-
-pub returns-in_err-read_home-clause-keeps : goal.returns-in_err-read_home-clause-keeps
-returns-in_err-read_home-clause-keeps g c = c.read_home.ensures.keeps
-
-pub returns-in_err-read_home-clause-still : goal.returns-in_err-read_home-clause-still
-returns-in_err-read_home-clause-still g c = c.read_home.ensures.still
-
-pub returns-in_err-read_home-clause-lasts : goal.returns-in_err-read_home-clause-lasts
-returns-in_err-read_home-clause-lasts g c = c.read_home.ensures.lasts
-
 pub returns-in_err-read_home-clause-narrows : goal.returns-in_err-read_home-clause-narrows
 returns-in_err-read_home-clause-narrows g c = subst (λ ws. Narrows (g.M.Machine.contents c.args.m.now).words ws) (sym c.read_home.ensures.memory) (narrows_refl _)
 
@@ -89,9 +71,6 @@ returns-in_err-read_home-clause-stay g c = stay_words _ _ c.read_home.ensures.me
 pub returns-in_err-read_home-clause-tables : goal.returns-in_err-read_home-clause-tables
 returns-in_err-read_home-clause-tables g c = record { forgotten = refl; shadowed = refl; shadows = refl }
 
-pub returns-in_err-read_home-clause-pool : goal.returns-in_err-read_home-clause-pool
-returns-in_err-read_home-clause-pool g c = refl
-
 pub frame_page_of-page-requires-clause-layout : goal.frame_page_of-page-requires-clause-layout
 frame_page_of-page-requires-clause-layout g c = layout_now _ _ (coherent_on _ _ _ c.read_home.ensures.ends.steps.scratch_count (c.read_home.ensures.keeps.coherent _ c.requires.sound.coherent))
 
@@ -100,9 +79,6 @@ frame_page_of-page-requires-clause-entry g c = subst (λ ws. c.args.k < frames_o
 
 pub fill-requires-clause-entry : goal.fill-requires-clause-entry
 fill-requires-clause-entry g c = subst (λ ws. c.args.k < frames_of ws) (sym c.read_home.ensures.memory) c.requires.entry
-
-pub fill-requires-clause-closed : goal.fill-requires-clause-closed
-fill-requires-clause-closed g c = c.read_home.ensures.closed
 
 pub fill-requires-clause-invalid : goal.fill-requires-clause-invalid
 fill-requires-clause-invalid g c = ap (λ ws. is_valid (tag_at ws c.args.k)) c.read_home.ensures.memory ∙ c.requires.invalid
@@ -116,9 +92,6 @@ returns-in_err-fill-clause-still g c = still_trans _ _ _ c.read_home.ensures.sti
 pub returns-in_err-fill-clause-tables : goal.returns-in_err-fill-clause-tables
 returns-in_err-fill-clause-tables g c = record { forgotten = refl; shadowed = refl; shadows = refl }
 
-pub returns-in_err-fill-clause-pool : goal.returns-in_err-fill-clause-pool
-returns-in_err-fill-clause-pool g c = refl
-
 pub returns-in_err-fill-clause-lasts : goal.returns-in_err-fill-clause-lasts
 returns-in_err-fill-clause-lasts g c = lasts_then _ _ _ c.read_home.ensures.lasts c.fill.ensures.lasts
 
@@ -130,9 +103,6 @@ returns-clause-still g c = still_trans _ _ _ c.read_home.ensures.still (still_re
 
 pub returns-clause-tables : goal.returns-clause-tables
 returns-clause-tables g c = record { forgotten = refl; shadowed = refl; shadows = refl }
-
-pub returns-clause-pool : goal.returns-clause-pool
-returns-clause-pool g c = refl
 
 pub returns-clause-lasts : goal.returns-clause-lasts
 returns-clause-lasts g c = lasts_then _ _ _ c.read_home.ensures.lasts c.fill.ensures.lasts
@@ -180,9 +150,3 @@ returns-in_err-fill-clause-fault g c =
 
 pub fill-requires-clause-coherent : goal.fill-requires-clause-coherent
 fill-requires-clause-coherent g c = coherent_on _ _ _ c.read_home.ensures.ends.steps.scratch_count (c.read_home.ensures.keeps.coherent _ c.requires.sound.coherent)
-
-pub fill-requires-clause-page : goal.fill-requires-clause-page
-fill-requires-clause-page g c = c.frame_page_of-page.ensures.page
-
-pub fill-requires-clause-within : goal.fill-requires-clause-within
-fill-requires-clause-within g c = c.frame_page_of-page.ensures.within

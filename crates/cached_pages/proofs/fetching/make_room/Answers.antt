@@ -19,9 +19,6 @@ use Rattle.cached_pages.proofs.Stills.{few_still, still_refl}
 use Rattle.cached_pages.proofs.Touched.{touches_refl}
 use Rattle.cached_pages.proofs.Uses.{leaves_frame, leaves_refl, order_refl}
 
-pub returns-clause-chosen : goal.returns-clause-chosen
-returns-clause-chosen g c = c.victim-k.ensures.first
-
 pub returns-in_err-evict_frame-clause-writes : goal.returns-in_err-evict_frame-clause-writes
 returns-in_err-evict_frame-clause-writes g c =
     let words = (g.M.Machine.contents c.args.m.now).words in
@@ -33,12 +30,6 @@ returns-clause-writes g c =
     let words = (g.M.Machine.contents c.args.m.now).words in
     let valid : is_valid (tag_at words c.victim-k.result) ≡ true = ap is_valid (sym c.tag_of.ensures) ∙ sym c.is_valid.ensures ∙ grind (arith, c.if-not-is_valid.false) in
     few_evicted c.args.b.0 _ c.victim-k.result _ _ _ c.requires.sound c.requires.uncached c.requires.block c.victim-k.ensures (record { within = subst (λ f. c.victim-k.result < f) c.requires.sound.frames c.victim-k.ensures.within; valid = valid }) c.evict_frame.ensures.one_write c.evict_frame.ensures.clean_entry
-
-pub returns-in_err-evict_frame-clause-marks : goal.returns-in_err-evict_frame-clause-marks
-returns-in_err-evict_frame-clause-marks g c = c.evict_frame.ensures.marks
-
-pub returns-clause-marks : goal.returns-clause-marks
-returns-clause-marks g c = c.evict_frame.ensures.marks
 
 pub returns-in_err-evict_frame-clause-freed : goal.returns-in_err-evict_frame-clause-freed
 returns-in_err-evict_frame-clause-freed g c = next_same c.args.t.now c.evict_frame.new.t (c.in_err-evict_frame.ensures.order refl)
@@ -61,62 +52,14 @@ tag_of-requires-clause-entry g c = subst (λ f. c.victim-k.result < f) c.require
 pub evict_frame-requires-clause-valid : goal.evict_frame-requires-clause-valid
 evict_frame-requires-clause-valid g c = record { within = subst (λ f. c.victim-k.result < f) c.requires.sound.frames c.victim-k.ensures.within; valid = ap is_valid (sym c.tag_of.ensures) ∙ sym c.is_valid.ensures ∙ grind (arith, c.if-not-is_valid.false) }
 
-pub evict_frame-requires-clause-unpinned : goal.evict_frame-requires-clause-unpinned
-evict_frame-requires-clause-unpinned g c = c.victim-k.ensures.unpinned
-
-pub returns-then-not-is_valid-clause-chosen : goal.returns-then-not-is_valid-clause-chosen
-returns-then-not-is_valid-clause-chosen g c = c.victim-k.ensures.first
-
 pub returns-then-not-is_valid-clause-room : goal.returns-then-not-is_valid-clause-room
 returns-then-not-is_valid-clause-room g c = (subst (λ f. c.victim-k.result < f) c.requires.sound.frames c.victim-k.ensures.within, ap is_valid (sym c.tag_of.ensures) ∙ sym c.is_valid.ensures ∙ grind (arith, c.if-not-is_valid.true))
 
 pub returns-clause-room : goal.returns-clause-room
 returns-clause-room g c = (subst (λ f. c.victim-k.result < f) (sym (c.evict_frame.ensures.keeps.header 2 (omega arith))) (subst (λ f. c.victim-k.result < f) c.requires.sound.frames c.victim-k.ensures.within), ap is_valid c.in_ok-evict_frame.ensures.gone)
 
-pub tag_of-requires-clause-coherent : goal.tag_of-requires-clause-coherent
-tag_of-requires-clause-coherent g c = c.requires.sound.coherent
-
-pub evict_frame-requires-clause-sound : goal.evict_frame-requires-clause-sound
-evict_frame-requires-clause-sound g c = c.requires.sound
-
-pub returns-in_err-evict_frame-clause-keeps : goal.returns-in_err-evict_frame-clause-keeps
-returns-in_err-evict_frame-clause-keeps g c = c.evict_frame.ensures.keeps
-
-pub returns-in_err-evict_frame-clause-lasts : goal.returns-in_err-evict_frame-clause-lasts
-returns-in_err-evict_frame-clause-lasts g c = c.evict_frame.ensures.lasts
-
-pub returns-in_err-evict_frame-clause-narrows : goal.returns-in_err-evict_frame-clause-narrows
-returns-in_err-evict_frame-clause-narrows g c = c.evict_frame.ensures.narrows
-
-pub returns-in_err-evict_frame-clause-sound : goal.returns-in_err-evict_frame-clause-sound
-returns-in_err-evict_frame-clause-sound g c = c.evict_frame.ensures.sound
-
-pub returns-in_err-evict_frame-clause-tables : goal.returns-in_err-evict_frame-clause-tables
-returns-in_err-evict_frame-clause-tables g c = c.evict_frame.ensures.tables
-
-pub returns-in_err-evict_frame-clause-touches : goal.returns-in_err-evict_frame-clause-touches
-returns-in_err-evict_frame-clause-touches g c = c.evict_frame.ensures.touches
-
 pub returns-in_err-evict_frame-clause-leaves : goal.returns-in_err-evict_frame-clause-leaves
 returns-in_err-evict_frame-clause-leaves g c = leaves_frame c.victim-k.result c.args.t.now (g.M.Machine.contents c.args.m.now).words (g.M.Machine.contents c.evict_frame.new.m).words c.victim-k.ensures.first c.evict_frame.ensures.leaves
-
-pub returns-clause-keeps : goal.returns-clause-keeps
-returns-clause-keeps g c = c.evict_frame.ensures.keeps
-
-pub returns-clause-lasts : goal.returns-clause-lasts
-returns-clause-lasts g c = c.evict_frame.ensures.lasts
-
-pub returns-clause-narrows : goal.returns-clause-narrows
-returns-clause-narrows g c = c.evict_frame.ensures.narrows
-
-pub returns-clause-sound : goal.returns-clause-sound
-returns-clause-sound g c = c.evict_frame.ensures.sound
-
-pub returns-clause-tables : goal.returns-clause-tables
-returns-clause-tables g c = c.evict_frame.ensures.tables
-
-pub returns-clause-touches : goal.returns-clause-touches
-returns-clause-touches g c = c.evict_frame.ensures.touches
 
 pub returns-clause-leaves : goal.returns-clause-leaves
 returns-clause-leaves g c = leaves_frame c.victim-k.result c.args.t.now (g.M.Machine.contents c.args.m.now).words (g.M.Machine.contents c.evict_frame.new.m).words c.victim-k.ensures.first c.evict_frame.ensures.leaves
@@ -153,9 +96,6 @@ returns-then-not-is_valid-clause-narrows g c = narrows_refl (g.M.Machine.content
 
 pub returns-then-not-is_valid-clause-order : goal.returns-then-not-is_valid-clause-order
 returns-then-not-is_valid-clause-order g c = order_refl c.victim-k.result c.args.t.now
-
-pub returns-then-not-is_valid-clause-sound : goal.returns-then-not-is_valid-clause-sound
-returns-then-not-is_valid-clause-sound g c = c.requires.sound
 
 pub returns-then-not-is_valid-clause-tables : goal.returns-then-not-is_valid-clause-tables
 returns-then-not-is_valid-clause-tables g c = tables_refl c.args.t.now

@@ -3,14 +3,8 @@ use Rattle.std.specs.Prelude.{OnOk}
 use Rattle.rio_model.proofs.CoverFills.{keeps_fill}
 use Rattle.cached_pages.proofs.filling.fill.Goals as goal
 
-pub store_page-requires-clause-closed : goal.store_page-requires-clause-closed
-store_page-requires-clause-closed g c = c.requires.closed
-
 pub store_page-requires-clause-page : goal.store_page-requires-clause-page
 store_page-requires-clause-page g c = omega (arith, c.requires.within)
-
-pub store_page-requires-clause-whole : goal.store_page-requires-clause-whole
-store_page-requires-clause-whole g c = c.requires.whole
 
 pub returns-clause-keeps : goal.returns-clause-keeps
 returns-clause-keeps g c = keeps_fill _ c.args.k _ _ c.requires.coherent c.store_page.ensures.rest c.requires.invalid (subst (λ q. OnePage q (g.M.Machine.contents c.args.m.now).words (g.M.Machine.contents c.store_page.new.m).words) c.requires.page c.store_page.ensures.one_page)
@@ -20,12 +14,3 @@ returns-clause-filled g c = subst (λ q. OnOk c.store_page.result ((w : ℕ) →
 
 pub returns-clause-one_page : goal.returns-clause-one_page
 returns-clause-one_page g c = subst (λ q. OnePage q (g.M.Machine.contents c.args.m.now).words (g.M.Machine.contents c.store_page.new.m).words) c.requires.page c.store_page.ensures.one_page
-
-pub returns-clause-rest : goal.returns-clause-rest
-returns-clause-rest g c = c.store_page.ensures.rest
-
-pub returns-clause-lasts : goal.returns-clause-lasts
-returns-clause-lasts g c = c.store_page.ensures.lasts
-
-pub returns-clause-ends : goal.returns-clause-ends
-returns-clause-ends g c = c.store_page.ensures.ends

@@ -12,18 +12,6 @@ returns-in_err-read_block-clause-keeps g c = keeps_faults (g.M.Machine.contents 
 pub returns-clause-keeps : goal.returns-clause-keeps
 returns-clause-keeps g c = keeps_faults (g.M.Machine.contents c.args.m.now) _ _ c.read_block.ensures.same
 
-pub read_block-requires-clause-closed : goal.read_block-requires-clause-closed
-read_block-requires-clause-closed g c = c.requires.closed
-
-pub read_block-requires-clause-block : goal.read_block-requires-clause-block
-read_block-requires-clause-block g c = c.requires.block
-
-pub read_block-requires-clause-room : goal.read_block-requires-clause-room
-read_block-requires-clause-room g c = c.requires.room
-
-pub returns-clause-room : goal.returns-clause-room
-returns-clause-room g c = c.read_block.ensures.room
-
 pub returns-clause-memory : goal.returns-clause-memory
 returns-clause-memory g c = ap (λ (x : Contents). x.words) c.read_block.ensures.same
 
@@ -36,12 +24,6 @@ returns-clause-still g c = still_faults _ _ _ c.read_block.ensures.same
 pub returns-clause-closed : goal.returns-clause-closed
 returns-clause-closed g c = ap (λ (x : Contents). x.open_page) c.read_block.ensures.same ∙ c.requires.closed
 
-pub returns-clause-lasts : goal.returns-clause-lasts
-returns-clause-lasts g c = c.read_block.ensures.lasts
-
-pub returns-in_err-read_block-clause-room : goal.returns-in_err-read_block-clause-room
-returns-in_err-read_block-clause-room g c = c.read_block.ensures.room
-
 pub returns-in_err-read_block-clause-memory : goal.returns-in_err-read_block-clause-memory
 returns-in_err-read_block-clause-memory g c = ap (λ (x : Contents). x.words) c.read_block.ensures.same
 
@@ -53,12 +35,6 @@ returns-in_err-read_block-clause-still g c = still_faults _ _ _ c.read_block.ens
 
 pub returns-in_err-read_block-clause-closed : goal.returns-in_err-read_block-clause-closed
 returns-in_err-read_block-clause-closed g c = ap (λ (x : Contents). x.open_page) c.read_block.ensures.same ∙ c.requires.closed
-
-pub returns-in_err-read_block-clause-lasts : goal.returns-in_err-read_block-clause-lasts
-returns-in_err-read_block-clause-lasts g c = c.read_block.ensures.lasts
-
-pub returns-clause-words : goal.returns-clause-words
-returns-clause-words g c = c.in_ok-read_block.ensures.words
 
 pub returns-in_err-read_block-clause-words : goal.returns-in_err-read_block-clause-words
 returns-in_err-read_block-clause-words g c = not_ok _ c.from_residual.result c.from_residual.ensures.0

@@ -67,38 +67,8 @@ returns-clause-stay g c = stay_trans _ _ _ (stay_found _ _ c.zero_frame.ensures.
 pub returns-clause-order : goal.returns-clause-order
 returns-clause-order g c = c.in_ok-bind_zeros.ensures.order ∙ ap (λ (t : CacheTables). used_last c.args.k (order_of t.pool)) c.zero_frame.ensures.tables
 
-pub zero_frame-requires-clause-sound : goal.zero_frame-requires-clause-sound
-zero_frame-requires-clause-sound g c = c.requires.sound
-
-pub zero_frame-requires-clause-entry : goal.zero_frame-requires-clause-entry
-zero_frame-requires-clause-entry g c = c.requires.entry
-
-pub zero_frame-requires-clause-invalid : goal.zero_frame-requires-clause-invalid
-zero_frame-requires-clause-invalid g c = c.requires.invalid
-
-pub bind_zeros-requires-clause-name : goal.bind_zeros-requires-clause-name
-bind_zeros-requires-clause-name g c = c.requires.name
-
-pub returns-in_err-zero_frame-clause-sound : goal.returns-in_err-zero_frame-clause-sound
-returns-in_err-zero_frame-clause-sound g c = c.zero_frame.ensures.sound
-
-pub returns-in_err-zero_frame-clause-still : goal.returns-in_err-zero_frame-clause-still
-returns-in_err-zero_frame-clause-still g c = c.zero_frame.ensures.still
-
-pub returns-in_err-zero_frame-clause-lasts : goal.returns-in_err-zero_frame-clause-lasts
-returns-in_err-zero_frame-clause-lasts g c = c.zero_frame.ensures.lasts
-
 pub returns-in_err-zero_frame-clause-tables : goal.returns-in_err-zero_frame-clause-tables
 returns-in_err-zero_frame-clause-tables g c = subst (λ t. SameTables c.args.t.now t) (sym c.zero_frame.ensures.tables) (tables_refl _)
-
-pub bind_zeros-requires-clause-sound : goal.bind_zeros-requires-clause-sound
-bind_zeros-requires-clause-sound g c = c.zero_frame.ensures.sound
-
-pub bind_zeros-requires-clause-zeros : goal.bind_zeros-requires-clause-zeros
-bind_zeros-requires-clause-zeros g c = c.in_ok-zero_frame.ensures.zeros
-
-pub returns-in_err-bind_zeros-clause-sound : goal.returns-in_err-bind_zeros-clause-sound
-returns-in_err-bind_zeros-clause-sound g c = c.bind_zeros.ensures.sound
 
 pub returns-in_err-bind_zeros-clause-tables : goal.returns-in_err-bind_zeros-clause-tables
 returns-in_err-bind_zeros-clause-tables g c = subst (λ t. SameTables t c.bind_zeros.new.t) c.zero_frame.ensures.tables c.bind_zeros.ensures.tables
@@ -109,9 +79,6 @@ returns-in_err-bind_zeros-clause-still g c = still_trans _ _ _ c.zero_frame.ensu
 pub returns-in_err-bind_zeros-clause-lasts : goal.returns-in_err-bind_zeros-clause-lasts
 returns-in_err-bind_zeros-clause-lasts g c = lasts_trans _ _ _ c.zero_frame.ensures.lasts c.bind_zeros.ensures.lasts
 
-pub returns-clause-sound : goal.returns-clause-sound
-returns-clause-sound g c = c.bind_zeros.ensures.sound
-
 pub returns-clause-tables : goal.returns-clause-tables
 returns-clause-tables g c = subst (λ t. SameTables t c.bind_zeros.new.t) c.zero_frame.ensures.tables c.bind_zeros.ensures.tables
 
@@ -120,12 +87,6 @@ returns-clause-still g c = still_trans _ _ _ c.zero_frame.ensures.still c.bind_z
 
 pub returns-clause-lasts : goal.returns-clause-lasts
 returns-clause-lasts g c = lasts_trans _ _ _ c.zero_frame.ensures.lasts c.bind_zeros.ensures.lasts
-
-pub returns-clause-firm : goal.returns-clause-firm
-returns-clause-firm g c = c.in_ok-bind_zeros.ensures.firm
-
-pub returns-clause-found : goal.returns-clause-found
-returns-clause-found g c = c.in_ok-bind_zeros.ensures.found
 
 pub returns-in_err-zero_frame-clause-marks : goal.returns-in_err-zero_frame-clause-marks
 returns-in_err-zero_frame-clause-marks g c = marks_any (Some c.args.b.0) _ _ c.zero_frame.ensures.marks

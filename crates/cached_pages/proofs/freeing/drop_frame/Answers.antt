@@ -44,12 +44,6 @@ returns-clause-sound g c =
     let new = g.M.Machine.contents c.clear.new.m in
     cleared_sound _ _ c.args.k c.args.b.0 old new _ _ c.requires.sound (cleared_frees _ c.args.k c.args.b.0 old new c.requires.sound.coherent e.rest e.one_entry tag c.requires.found) e.ends.steps.scratch_count e.closed (ap (λ (m : Contents). m.disk) e.rest) (ap (λ (m : Contents). m.pending) e.rest) e.one_entry tag (record { same = record { forgotten = refl; shadowed = refl; shadows = refl }; pool = record { frames = c.unbind.ensures.frames; blocks = c.unbind.ensures.blocks; pins = c.unbind.ensures.pins; count = c.unbind.ensures.pins_in }; first = refl; early = loses_refl _; buffer = refl }) c.unbind.ensures.unbound c.unbind.ensures.others
 
-pub returns-clause-freed : goal.returns-clause-freed
-returns-clause-freed g c = c.unbind.ensures.order
-
-pub returns-in_err-clear-clause-same : goal.returns-in_err-clear-clause-same
-returns-in_err-clear-clause-same g c q = c.in_err-clear.ensures.same
-
 pub returns-clause-same : goal.returns-clause-same
 returns-clause-same g c q = absurd (true_false (sym q))
 
@@ -70,17 +64,11 @@ returns-clause-marks g c =
     let tag = ap (λ (x : Entry). x.tag) c.in_ok-clear.ensures.entry in
     marks_gone None c.args.k (g.M.Machine.contents c.args.m.now).words (g.M.Machine.contents c.clear.new.m).words (narrows_gone c.args.k _ (g.M.Machine.contents c.args.m.now) (g.M.Machine.contents c.clear.new.m).words c.requires.sound.coherent c.clear.ensures.changes.one_entry tag) c.clear.ensures.changes.one_entry tag
 
-pub returns-clause-lasts : goal.returns-clause-lasts
-returns-clause-lasts g c = c.clear.ensures.changes.lasts
-
 pub returns-clause-still : goal.returns-clause-still
 returns-clause-still g c = still_rest (g.M.Machine.contents c.args.m.now) (g.M.Machine.contents c.clear.new.m) c.clear.ensures.changes.rest
 
 pub returns-clause-tables : goal.returns-clause-tables
 returns-clause-tables g c = record { forgotten = refl; shadowed = refl; shadows = refl }
-
-pub returns-in_err-clear-clause-lasts : goal.returns-in_err-clear-clause-lasts
-returns-in_err-clear-clause-lasts g c = c.clear.ensures.changes.lasts
 
 pub returns-in_err-clear-clause-still : goal.returns-in_err-clear-clause-still
 returns-in_err-clear-clause-still g c = still_rest (g.M.Machine.contents c.args.m.now) (g.M.Machine.contents c.clear.new.m) c.clear.ensures.changes.rest
@@ -88,14 +76,8 @@ returns-in_err-clear-clause-still g c = still_rest (g.M.Machine.contents c.args.
 pub returns-in_err-clear-clause-tables : goal.returns-in_err-clear-clause-tables
 returns-in_err-clear-clause-tables g c = record { forgotten = refl; shadowed = refl; shadows = refl }
 
-pub returns-clause-ends : goal.returns-clause-ends
-returns-clause-ends g c = c.in_ok-clear.ensures.changes.ends
-
 pub returns-in_err-clear-clause-ends : goal.returns-in_err-clear-clause-ends
 returns-in_err-clear-clause-ends g c = ends_stop (g.M.Machine.run c.args.m.now) (g.M.Machine.run c.clear.new.m) _ _ refl c.from_residual.ensures.0 c.in_err-clear.ensures.changes.ends
-
-pub returns-clause-order : goal.returns-clause-order
-returns-clause-order g c = tt
 
 pub clear-requires : goal.clear-requires
 clear-requires g c = record { can = can_clear c.args.b.0 c.args.k _ _ _ c.requires.sound c.requires.found }

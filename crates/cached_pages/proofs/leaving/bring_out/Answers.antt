@@ -10,9 +10,6 @@ returns-clause-nears g c = nears_trans _ _ _ _ _ _ c.bring_home.ensures.nears c.
 pub returns-clause-home : goal.returns-clause-home
 returns-clause-home g c = home_near c.args.k (g.M.Machine.contents c.bring_home.new.m) (g.M.Machine.contents c.settle.new.m) c.settle.ensures.nears.words c.settle.ensures.disk c.in_ok-bring_home.ensures.home
 
-pub returns-clause-settled : goal.returns-clause-settled
-returns-clause-settled g c = c.in_ok-settle.ensures.settled
-
 pub returns-clause-one_write : goal.returns-clause-one_write
 returns-clause-one_write g c = one_before _ _ _ c.bring_home.ensures.one_write c.settle.ensures.writes
 

@@ -6,9 +6,6 @@ use Rattle.cached_pages.proofs.leaving.is_home.Goals as goal
 pub frame_page_of-page-requires-clause-layout : goal.frame_page_of-page-requires-clause-layout
 frame_page_of-page-requires-clause-layout g c = layout_now _ _ c.requires.sound.coherent
 
-pub frame_page_of-page-requires-clause-entry : goal.frame_page_of-page-requires-clause-entry
-frame_page_of-page-requires-clause-entry g c = c.requires.valid.within
-
 pub returns : goal.returns
 returns g c = λ same.
     let within = c.frame_page_of-page.ensures.within in

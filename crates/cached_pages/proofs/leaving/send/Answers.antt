@@ -38,6 +38,3 @@ returns-clause-sound g c =
     let block = sym (ap (λ ws. tag_block (tag_at ws c.args.k)) words ∙ c.requires.block) in
     let has = has_home c.args.k c.args.b.0 _ new _ block page (c.frame.ensures.protected (rw words (omega (arith, within)))) c.in_ok-write_entry.ensures.written in
     sound_near _ _ old new _ _ c.requires.sound c.write_entry.ensures.ends.steps.scratch_count (record { keeps = c.write_entry.ensures.keeps; words = c.write_entry.ensures.words; lasts = c.write_entry.ensures.lasts; tables = record { forgotten = refl; shadowed = refl; shadows = refl }; pool = refl }) c.write_entry.ensures.closed refl refl (c.wrote.ensures new.disk new.pending early has)
-
-pub returns-clause-written : goal.returns-clause-written
-returns-clause-written g c = c.in_ok-write_entry.ensures.written

@@ -6,30 +6,6 @@ use Rattle.cached_pages.proofs.Goes.{apart, ends_quiet, ends_stop}
 use Rattle.cached_pages.proofs.Nearness.{nears_refl, one_none}
 use Rattle.cached_pages.proofs.leaving.send_next.Goals as goal
 
-pub next_to_send-requires-clause-sound : goal.next_to_send-requires-clause-sound
-next_to_send-requires-clause-sound g c = c.requires.sound
-
-pub next_to_send-requires-clause-entry : goal.next_to_send-requires-clause-entry
-next_to_send-requires-clause-entry g c = c.requires.entry
-
-pub tag_of-requires-clause-coherent : goal.tag_of-requires-clause-coherent
-tag_of-requires-clause-coherent g c = c.requires.sound.coherent
-
-pub tag_of-requires-clause-entry : goal.tag_of-requires-clause-entry
-tag_of-requires-clause-entry g c = c.in-Some.ensures.valid.within
-
-pub send-requires-clause-sound : goal.send-requires-clause-sound
-send-requires-clause-sound g c = c.requires.sound
-
-pub send-requires-clause-valid : goal.send-requires-clause-valid
-send-requires-clause-valid g c = c.in-Some.ensures.valid
-
-pub send-requires-clause-dirty : goal.send-requires-clause-dirty
-send-requires-clause-dirty g c = c.in-Some.ensures.dirty
-
-pub returns-in_default-clause-sound : goal.returns-in_default-clause-sound
-returns-in_default-clause-sound g c = c.requires.sound
-
 pub returns-in_default-clause-nears : goal.returns-in_default-clause-nears
 returns-in_default-clause-nears g c = nears_refl (g.M.Machine.contents c.args.m.now) c.args.t.now
 
@@ -45,47 +21,11 @@ returns-in_default-clause-one_write g c = one_none (g.M.Machine.contents c.args.
 pub returns-in_default-clause-ends : goal.returns-in_default-clause-ends
 returns-in_default-clause-ends g c = ends_none (g.M.Machine.run c.args.m.now) _ (λ q. true_false (sym q))
 
-pub returns-in-Ok-clause-sound : goal.returns-in-Ok-clause-sound
-returns-in-Ok-clause-sound g c = c.send.ensures.sound
-
-pub returns-in-Ok-clause-nears : goal.returns-in-Ok-clause-nears
-returns-in-Ok-clause-nears g c = c.send.ensures.nears
-
-pub returns-in-Ok-clause-pends : goal.returns-in-Ok-clause-pends
-returns-in-Ok-clause-pends g c = c.send.ensures.pends
-
-pub returns-in-Ok-clause-one_write : goal.returns-in-Ok-clause-one_write
-returns-in-Ok-clause-one_write g c = c.send.ensures.one_write
-
 pub returns-in-Ok-clause-stays : goal.returns-in-Ok-clause-stays
 returns-in-Ok-clause-stays g c = λ v d. c.send.ensures.others c.args.k v (λ q. c.in-Some.ensures.other (sym q)) d
 
-pub returns-in-Err-Fault-clause-sound : goal.returns-in-Err-Fault-clause-sound
-returns-in-Err-Fault-clause-sound g c = c.send.ensures.sound
-
-pub returns-in-Err-Fault-clause-nears : goal.returns-in-Err-Fault-clause-nears
-returns-in-Err-Fault-clause-nears g c = c.send.ensures.nears
-
-pub returns-in-Err-Fault-clause-pends : goal.returns-in-Err-Fault-clause-pends
-returns-in-Err-Fault-clause-pends g c = c.send.ensures.pends
-
-pub returns-in-Err-Fault-clause-one_write : goal.returns-in-Err-Fault-clause-one_write
-returns-in-Err-Fault-clause-one_write g c = c.send.ensures.one_write
-
 pub returns-in-Err-Fault-clause-stays : goal.returns-in-Err-Fault-clause-stays
 returns-in-Err-Fault-clause-stays g c = λ v d. c.send.ensures.others c.args.k v (λ q. c.in-Some.ensures.other (sym q)) d
-
-pub returns-in-Err-Stopped-clause-sound : goal.returns-in-Err-Stopped-clause-sound
-returns-in-Err-Stopped-clause-sound g c = c.send.ensures.sound
-
-pub returns-in-Err-Stopped-clause-nears : goal.returns-in-Err-Stopped-clause-nears
-returns-in-Err-Stopped-clause-nears g c = c.send.ensures.nears
-
-pub returns-in-Err-Stopped-clause-pends : goal.returns-in-Err-Stopped-clause-pends
-returns-in-Err-Stopped-clause-pends g c = c.send.ensures.pends
-
-pub returns-in-Err-Stopped-clause-one_write : goal.returns-in-Err-Stopped-clause-one_write
-returns-in-Err-Stopped-clause-one_write g c = c.send.ensures.one_write
 
 pub returns-in-Err-Stopped-clause-stays : goal.returns-in-Err-Stopped-clause-stays
 returns-in-Err-Stopped-clause-stays g c = λ v d. c.send.ensures.others c.args.k v (λ q. c.in-Some.ensures.other (sym q)) d

@@ -30,38 +30,8 @@ returns-clause-named g c = named_after _ c.args.k c.args.name (g.M.Machine.conte
 pub returns-clause-ends : goal.returns-clause-ends
 returns-clause-ends g c = ends_ok _ _ _ _ _ _ (λ q. true_false (sym q)) (λ q. true_false (sym q)) (λ q. true_false (sym q)) c.in_ok-mark_dirty.ensures.ends c.in_ok-widen.ensures.ends
 
-pub mark_dirty-requires-clause-sound : goal.mark_dirty-requires-clause-sound
-mark_dirty-requires-clause-sound g c = c.requires.sound
-
-pub mark_dirty-requires-clause-valid : goal.mark_dirty-requires-clause-valid
-mark_dirty-requires-clause-valid g c = c.requires.valid
-
-pub widen-requires-clause-name : goal.widen-requires-clause-name
-widen-requires-clause-name g c = c.requires.name
-
-pub returns-in_err-mark_dirty-clause-sound : goal.returns-in_err-mark_dirty-clause-sound
-returns-in_err-mark_dirty-clause-sound g c = c.mark_dirty.ensures.sound
-
-pub returns-in_err-mark_dirty-clause-keeps : goal.returns-in_err-mark_dirty-clause-keeps
-returns-in_err-mark_dirty-clause-keeps g c = c.mark_dirty.ensures.keeps
-
-pub returns-in_err-mark_dirty-clause-tables : goal.returns-in_err-mark_dirty-clause-tables
-returns-in_err-mark_dirty-clause-tables g c = c.mark_dirty.ensures.tables
-
-pub returns-in_err-mark_dirty-clause-still : goal.returns-in_err-mark_dirty-clause-still
-returns-in_err-mark_dirty-clause-still g c = c.mark_dirty.ensures.still
-
-pub returns-in_err-mark_dirty-clause-lasts : goal.returns-in_err-mark_dirty-clause-lasts
-returns-in_err-mark_dirty-clause-lasts g c = c.mark_dirty.ensures.lasts
-
-pub widen-requires-clause-sound : goal.widen-requires-clause-sound
-widen-requires-clause-sound g c = c.mark_dirty.ensures.sound
-
 pub widen-requires-clause-valid : goal.widen-requires-clause-valid
 widen-requires-clause-valid g c = valid_cached _ _ (g.M.Machine.contents c.args.m.now) (g.M.Machine.contents c.mark_dirty.new.m) c.requires.sound.coherent c.requires.valid c.mark_dirty.ensures.cached
-
-pub returns-in_err-widen-clause-sound : goal.returns-in_err-widen-clause-sound
-returns-in_err-widen-clause-sound g c = c.widen.ensures.sound
 
 pub returns-in_err-widen-clause-keeps : goal.returns-in_err-widen-clause-keeps
 returns-in_err-widen-clause-keeps g c = keeps_trans _ _ _ c.mark_dirty.ensures.keeps c.widen.ensures.keeps
@@ -74,9 +44,6 @@ returns-in_err-widen-clause-still g c = still_trans _ _ _ c.mark_dirty.ensures.s
 
 pub returns-in_err-widen-clause-lasts : goal.returns-in_err-widen-clause-lasts
 returns-in_err-widen-clause-lasts g c = lasts_trans _ _ _ c.mark_dirty.ensures.lasts c.widen.ensures.lasts
-
-pub returns-clause-sound : goal.returns-clause-sound
-returns-clause-sound g c = c.widen.ensures.sound
 
 pub returns-clause-keeps : goal.returns-clause-keeps
 returns-clause-keeps g c = keeps_trans _ _ _ c.mark_dirty.ensures.keeps c.widen.ensures.keeps

@@ -20,14 +20,8 @@ returns-clause-keeps g c = dirtied_keeps _ c.args.k (g.M.Machine.contents c.args
 pub returns-clause-cached : goal.returns-clause-cached
 returns-clause-cached g c = let one = c.set_dirty.ensures.changes.one_entry in cached_held c.args.k _ _ one (dirtied_held c.args.k _ _ one c.in_ok-set_dirty.ensures.entry)
 
-pub returns-in_err-set_dirty-clause-one_entry : goal.returns-in_err-set_dirty-clause-one_entry
-returns-in_err-set_dirty-clause-one_entry g c = c.set_dirty.ensures.changes.one_entry
-
 pub returns-in_err-set_dirty-clause-held : goal.returns-in_err-set_dirty-clause-held
 returns-in_err-set_dirty-clause-held g c = held_same c.args.k _ _ (ap (λ (m : Contents). m.words) c.in_err-set_dirty.ensures.same)
-
-pub returns-clause-one_entry : goal.returns-clause-one_entry
-returns-clause-one_entry g c = c.set_dirty.ensures.changes.one_entry
 
 pub returns-clause-held : goal.returns-clause-held
 returns-clause-held g c = dirtied_held c.args.k _ _ c.set_dirty.ensures.changes.one_entry c.in_ok-set_dirty.ensures.entry
@@ -35,17 +29,8 @@ returns-clause-held g c = dirtied_held c.args.k _ _ c.set_dirty.ensures.changes.
 pub load_tag-requires-clause-layout : goal.load_tag-requires-clause-layout
 load_tag-requires-clause-layout g c = layout_of _ (g.M.Machine.run c.args.m.now) _ c.requires.sound
 
-pub load_tag-requires-clause-entry : goal.load_tag-requires-clause-entry
-load_tag-requires-clause-entry g c = c.requires.valid.within
-
 pub set_dirty-requires-clause-can : goal.set_dirty-requires-clause-can
 set_dirty-requires-clause-can g c = can_change c.args.k _ _ _ c.requires.sound c.requires.valid.within
-
-pub set_dirty-requires-clause-valid : goal.set_dirty-requires-clause-valid
-set_dirty-requires-clause-valid g c = c.requires.valid.valid
-
-pub returns-then-is_dirty-clause-sound : goal.returns-then-is_dirty-clause-sound
-returns-then-is_dirty-clause-sound g c = c.requires.sound
 
 pub returns-then-is_dirty-clause-keeps : goal.returns-then-is_dirty-clause-keeps
 returns-then-is_dirty-clause-keeps g c = keeps_refl _
@@ -61,9 +46,6 @@ returns-then-is_dirty-clause-held g c = held_refl _ _
 
 pub returns-then-is_dirty-clause-cached : goal.returns-then-is_dirty-clause-cached
 returns-then-is_dirty-clause-cached g c = cached_refl _
-
-pub returns-then-is_dirty-clause-tables : goal.returns-then-is_dirty-clause-tables
-returns-then-is_dirty-clause-tables g c = refl
 
 pub returns-then-is_dirty-clause-still : goal.returns-then-is_dirty-clause-still
 returns-then-is_dirty-clause-still g c = still_refl _
@@ -86,14 +68,8 @@ returns-in_err-set_dirty-clause-dirty g c = not_ok _ c.from_residual.result c.fr
 pub returns-in_err-set_dirty-clause-cached : goal.returns-in_err-set_dirty-clause-cached
 returns-in_err-set_dirty-clause-cached g c = cached_same _ _ c.in_err-set_dirty.ensures.same
 
-pub returns-in_err-set_dirty-clause-tables : goal.returns-in_err-set_dirty-clause-tables
-returns-in_err-set_dirty-clause-tables g c = refl
-
 pub returns-in_err-set_dirty-clause-still : goal.returns-in_err-set_dirty-clause-still
 returns-in_err-set_dirty-clause-still g c = still_same _ _ c.in_err-set_dirty.ensures.same
-
-pub returns-in_err-set_dirty-clause-lasts : goal.returns-in_err-set_dirty-clause-lasts
-returns-in_err-set_dirty-clause-lasts g c = c.set_dirty.ensures.changes.lasts
 
 pub returns-in_err-set_dirty-clause-ends : goal.returns-in_err-set_dirty-clause-ends
 returns-in_err-set_dirty-clause-ends g c = ends_stop (g.M.Machine.run c.args.m.now) (g.M.Machine.run c.set_dirty.new.m) _ _ refl c.from_residual.ensures.0 c.in_err-set_dirty.ensures.changes.ends
@@ -101,14 +77,5 @@ returns-in_err-set_dirty-clause-ends g c = ends_stop (g.M.Machine.run c.args.m.n
 pub returns-clause-dirty : goal.returns-clause-dirty
 returns-clause-dirty g c = dirtied_is c.args.k _ _ c.in_ok-set_dirty.ensures.entry
 
-pub returns-clause-tables : goal.returns-clause-tables
-returns-clause-tables g c = refl
-
 pub returns-clause-still : goal.returns-clause-still
 returns-clause-still g c = still_rest _ _ c.set_dirty.ensures.changes.rest
-
-pub returns-clause-lasts : goal.returns-clause-lasts
-returns-clause-lasts g c = c.set_dirty.ensures.changes.lasts
-
-pub returns-clause-ends : goal.returns-clause-ends
-returns-clause-ends g c = c.in_ok-set_dirty.ensures.changes.ends

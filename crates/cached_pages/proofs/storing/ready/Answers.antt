@@ -59,33 +59,6 @@ returns-in_err-make_ready-clause-leaves g c = leaves_then _ _ _ _ c.fetch.ensure
 pub returns-clause-leaves : goal.returns-clause-leaves
 returns-clause-leaves g c = leaves_then _ _ _ _ c.fetch.ensures.leaves (stay_found _ _ c.make_ready.ensures.widens.found)
 
-pub returns-in_err-k-clause-sound : goal.returns-in_err-k-clause-sound
-returns-in_err-k-clause-sound g c = c.fetch.ensures.sound
-
-pub returns-in_err-k-clause-keeps : goal.returns-in_err-k-clause-keeps
-returns-in_err-k-clause-keeps g c = c.fetch.ensures.keeps
-
-pub returns-in_err-k-clause-tables : goal.returns-in_err-k-clause-tables
-returns-in_err-k-clause-tables g c = c.fetch.ensures.tables
-
-pub returns-in_err-k-clause-leaves : goal.returns-in_err-k-clause-leaves
-returns-in_err-k-clause-leaves g c = c.fetch.ensures.leaves
-
-pub returns-in_err-k-clause-writes : goal.returns-in_err-k-clause-writes
-returns-in_err-k-clause-writes g c = c.fetch.ensures.writes
-
-pub returns-in_err-k-clause-lasts : goal.returns-in_err-k-clause-lasts
-returns-in_err-k-clause-lasts g c = c.fetch.ensures.lasts
-
-pub make_ready-requires-clause-sound : goal.make_ready-requires-clause-sound
-make_ready-requires-clause-sound g c = c.fetch.ensures.sound
-
-pub make_ready-requires-clause-name : goal.make_ready-requires-clause-name
-make_ready-requires-clause-name g c = c.requires.name
-
-pub returns-in_err-make_ready-clause-sound : goal.returns-in_err-make_ready-clause-sound
-returns-in_err-make_ready-clause-sound g c = c.make_ready.ensures.sound
-
 pub returns-in_err-make_ready-clause-keeps : goal.returns-in_err-make_ready-clause-keeps
 returns-in_err-make_ready-clause-keeps g c = keeps_trans _ _ _ c.fetch.ensures.keeps c.make_ready.ensures.keeps
 
@@ -95,9 +68,6 @@ returns-in_err-make_ready-clause-tables g c = subst (λ t. SameTables c.args.t.n
 pub returns-in_err-make_ready-clause-lasts : goal.returns-in_err-make_ready-clause-lasts
 returns-in_err-make_ready-clause-lasts g c = lasts_trans _ _ _ c.fetch.ensures.lasts c.make_ready.ensures.lasts
 
-pub returns-clause-sound : goal.returns-clause-sound
-returns-clause-sound g c = c.make_ready.ensures.sound
-
 pub returns-clause-keeps : goal.returns-clause-keeps
 returns-clause-keeps g c = keeps_trans _ _ _ c.fetch.ensures.keeps c.make_ready.ensures.keeps
 
@@ -106,9 +76,6 @@ returns-clause-tables g c = subst (λ t. SameTables c.args.t.now t) (sym c.make_
 
 pub returns-clause-lasts : goal.returns-clause-lasts
 returns-clause-lasts g c = lasts_trans _ _ _ c.fetch.ensures.lasts c.make_ready.ensures.lasts
-
-pub returns-clause-dirty : goal.returns-clause-dirty
-returns-clause-dirty g c = c.in_ok-make_ready.ensures.dirty
 
 pub returns-clause-drops : goal.returns-clause-drops
 returns-clause-drops g c q = absurd (never _ _ q)
@@ -139,15 +106,6 @@ returns-in_err-make_ready-clause-failed g c q = failed_used c.args.b.0 _ c.args.
 
 pub returns-clause-failed : goal.returns-clause-failed
 returns-clause-failed g c q = absurd (true_false (sym q))
-
-pub fetch-requires-clause-sound : goal.fetch-requires-clause-sound
-fetch-requires-clause-sound g c = c.requires.sound
-
-pub fetch-requires-clause-block : goal.fetch-requires-clause-block
-fetch-requires-clause-block g c = c.requires.block
-
-pub fetch-requires-clause-name : goal.fetch-requires-clause-name
-fetch-requires-clause-name g c = c.requires.name
 
 pub returns-in_err-k-clause-ends : goal.returns-in_err-k-clause-ends
 returns-in_err-k-clause-ends g c = ends_told (g.M.Machine.run c.args.m.now) (g.M.Machine.run c.fetch.new.m) _ Stopped c.from_residual.result (grind (arith, c.from_residual.ensures)) c.in_err-k.ensures.ends

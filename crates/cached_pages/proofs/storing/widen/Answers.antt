@@ -50,26 +50,11 @@ returns-in_default-clause-marks g c = marks_refl None _
 pub returns-then-from-read_entry-clause-marks : goal.returns-then-from-read_entry-clause-marks
 returns-then-from-read_entry-clause-marks g c = marks_refl None _
 
-pub returns-clause-lasts : goal.returns-clause-lasts
-returns-clause-lasts g c = c.set_size.ensures.changes.lasts
-
 pub returns-clause-still : goal.returns-clause-still
 returns-clause-still g c = still_rest (g.M.Machine.contents c.args.m.now) (g.M.Machine.contents c.set_size.new.m) c.set_size.ensures.changes.rest
 
-pub returns-clause-tables : goal.returns-clause-tables
-returns-clause-tables g c = refl
-
-pub returns-in_err-set_size-clause-lasts : goal.returns-in_err-set_size-clause-lasts
-returns-in_err-set_size-clause-lasts g c = c.set_size.ensures.changes.lasts
-
 pub returns-in_err-set_size-clause-still : goal.returns-in_err-set_size-clause-still
 returns-in_err-set_size-clause-still g c = still_rest (g.M.Machine.contents c.args.m.now) (g.M.Machine.contents c.set_size.new.m) c.set_size.ensures.changes.rest
-
-pub returns-in_err-set_size-clause-tables : goal.returns-in_err-set_size-clause-tables
-returns-in_err-set_size-clause-tables g c = refl
-
-pub returns-clause-ends : goal.returns-clause-ends
-returns-clause-ends g c = c.in_ok-set_size.ensures.changes.ends
 
 pub returns-clause-tag : goal.returns-clause-tag
 returns-clause-tag g c = ap (λ (x : Entry). x.tag) c.in_ok-set_size.ensures.entry
@@ -95,15 +80,6 @@ returns-in_default-clause-lasts g c = lasts_refl (g.M.Machine.contents c.args.m.
 pub returns-in_default-clause-still : goal.returns-in_default-clause-still
 returns-in_default-clause-still g c = still_refl (g.M.Machine.contents c.args.m.now)
 
-pub returns-in_default-clause-tables : goal.returns-in_default-clause-tables
-returns-in_default-clause-tables g c = refl
-
-pub returns-in_default-clause-tag : goal.returns-in_default-clause-tag
-returns-in_default-clause-tag g c = refl
-
-pub returns-in_default-clause-sound : goal.returns-in_default-clause-sound
-returns-in_default-clause-sound g c = c.requires.sound
-
 pub returns-in_default-clause-keeps : goal.returns-in_default-clause-keeps
 returns-in_default-clause-keeps g c = keeps_refl (g.M.Machine.contents c.args.m.now)
 
@@ -119,15 +95,6 @@ returns-then-from-read_entry-clause-lasts g c = lasts_refl (g.M.Machine.contents
 pub returns-then-from-read_entry-clause-still : goal.returns-then-from-read_entry-clause-still
 returns-then-from-read_entry-clause-still g c = still_refl (g.M.Machine.contents c.args.m.now)
 
-pub returns-then-from-read_entry-clause-tables : goal.returns-then-from-read_entry-clause-tables
-returns-then-from-read_entry-clause-tables g c = refl
-
-pub returns-then-from-read_entry-clause-tag : goal.returns-then-from-read_entry-clause-tag
-returns-then-from-read_entry-clause-tag g c = refl
-
-pub returns-then-from-read_entry-clause-sound : goal.returns-then-from-read_entry-clause-sound
-returns-then-from-read_entry-clause-sound g c = c.requires.sound
-
 pub returns-then-from-read_entry-clause-keeps : goal.returns-then-from-read_entry-clause-keeps
 returns-then-from-read_entry-clause-keeps g c = keeps_refl (g.M.Machine.contents c.args.m.now)
 
@@ -140,14 +107,8 @@ returns-then-from-read_entry-clause-widens g c = widens_same c.args.k c.args.nam
 pub read_entry-requires-clause-layout : goal.read_entry-requires-clause-layout
 read_entry-requires-clause-layout g c = layout_of _ (g.M.Machine.run c.args.m.now) _ c.requires.sound
 
-pub read_entry-requires-clause-entry : goal.read_entry-requires-clause-entry
-read_entry-requires-clause-entry g c = c.requires.valid.within
-
 pub set_size-requires-clause-can : goal.set_size-requires-clause-can
 set_size-requires-clause-can g c = can_change c.args.k _ _ _ c.requires.sound c.requires.valid.within
-
-pub set_size-requires-clause-valid : goal.set_size-requires-clause-valid
-set_size-requires-clause-valid g c = c.requires.valid.valid
 
 pub returns-in_err-set_size-clause-named : goal.returns-in_err-set_size-clause-named
 returns-in_err-set_size-clause-named g c = not_ok _ c.from_residual.result c.from_residual.ensures.0

@@ -14,21 +14,6 @@ returns-in_err-shadow-clause-sound g c = sound_same _ _ _ _ _ c.requires.sound c
 pub returns-clause-sound : goal.returns-clause-sound
 returns-clause-sound g c = given_sound _ _ c.args.k _ _ _ _ c.requires.sound c.shadow.ensures.ends.steps.scratch_count c.shadow.ensures.keeps c.shadow.ensures.rest c.shadow.ensures.closed c.shadow.ensures.names c.requires.updating c.requires.valid c.requires.dirty c.requires.room c.in_ok-shadow.ensures.given c.shadow.ensures.others (record { frames = c.pin.ensures.frames; blocks = c.pin.ensures.blocks; held = c.pin.ensures.held; forgotten = refl; early = refl; buffer = refl; first = refl; room = length-set _ _ _ }) refl refl c.pin.ensures.pinned c.pin.ensures.others c.pin.ensures.most
 
-pub shadow-requires-clause-coherent : goal.shadow-requires-clause-coherent
-shadow-requires-clause-coherent g c = c.requires.sound.coherent
-
-pub shadow-requires-clause-closed : goal.shadow-requires-clause-closed
-shadow-requires-clause-closed g c = c.requires.sound.closed
-
-pub shadow-requires-clause-valid : goal.shadow-requires-clause-valid
-shadow-requires-clause-valid g c = c.requires.valid
-
-pub shadow-requires-clause-metadata : goal.shadow-requires-clause-metadata
-shadow-requires-clause-metadata g c = c.requires.metadata
-
-pub shadow-requires-clause-bare : goal.shadow-requires-clause-bare
-shadow-requires-clause-bare g c = c.requires.bare
-
 pub shadow-requires-clause-from : goal.shadow-requires-clause-from
 shadow-requires-clause-from g c = omega arith
 
@@ -44,62 +29,20 @@ pin-requires-clause-within g c = subst (λ f. c.args.k < f) (sym c.requires.soun
 pub pin-requires-clause-bound : goal.pin-requires-clause-bound
 pin-requires-clause-bound g c = frame_bound c.args.k _ (g.M.Machine.contents c.args.m.now) c.args.t.now c.requires.sound c.requires.valid
 
-pub returns-clause-keeps : goal.returns-clause-keeps
-returns-clause-keeps g c = c.shadow.ensures.keeps
-
-pub returns-clause-names : goal.returns-clause-names
-returns-clause-names g c = c.shadow.ensures.names
-
 pub returns-clause-given : goal.returns-clause-given
 returns-clause-given g c = λ none. absurd (omega (arith, c.in_ok-shadow.ensures.given, none))
-
-pub returns-clause-others : goal.returns-clause-others
-returns-clause-others g c = c.shadow.ensures.others
-
-pub returns-clause-count : goal.returns-clause-count
-returns-clause-count g c = refl
-
-pub returns-clause-forgotten : goal.returns-clause-forgotten
-returns-clause-forgotten g c = refl
-
-pub returns-clause-order : goal.returns-clause-order
-returns-clause-order g c = c.pin.ensures.order
 
 pub returns-clause-still : goal.returns-clause-still
 returns-clause-still g c = still_rest _ _ c.shadow.ensures.rest
 
-pub returns-clause-lasts : goal.returns-clause-lasts
-returns-clause-lasts g c = c.shadow.ensures.lasts
-
-pub returns-clause-ends : goal.returns-clause-ends
-returns-clause-ends g c = c.in_ok-shadow.ensures.ends
-
-pub returns-in_err-shadow-clause-keeps : goal.returns-in_err-shadow-clause-keeps
-returns-in_err-shadow-clause-keeps g c = c.shadow.ensures.keeps
-
-pub returns-in_err-shadow-clause-names : goal.returns-in_err-shadow-clause-names
-returns-in_err-shadow-clause-names g c = c.shadow.ensures.names
-
 pub returns-in_err-shadow-clause-given : goal.returns-in_err-shadow-clause-given
 returns-in_err-shadow-clause-given g c = not_ok _ c.from_residual.result c.from_residual.ensures.0
-
-pub returns-in_err-shadow-clause-others : goal.returns-in_err-shadow-clause-others
-returns-in_err-shadow-clause-others g c = c.shadow.ensures.others
 
 pub returns-in_err-shadow-clause-count : goal.returns-in_err-shadow-clause-count
 returns-in_err-shadow-clause-count g c = not_ok _ c.from_residual.result c.from_residual.ensures.0
 
-pub returns-in_err-shadow-clause-forgotten : goal.returns-in_err-shadow-clause-forgotten
-returns-in_err-shadow-clause-forgotten g c = refl
-
-pub returns-in_err-shadow-clause-order : goal.returns-in_err-shadow-clause-order
-returns-in_err-shadow-clause-order g c = refl
-
 pub returns-in_err-shadow-clause-still : goal.returns-in_err-shadow-clause-still
 returns-in_err-shadow-clause-still g c = still_rest _ _ c.shadow.ensures.rest
-
-pub returns-in_err-shadow-clause-lasts : goal.returns-in_err-shadow-clause-lasts
-returns-in_err-shadow-clause-lasts g c = c.shadow.ensures.lasts
 
 pub returns-in_err-shadow-clause-ends : goal.returns-in_err-shadow-clause-ends
 returns-in_err-shadow-clause-ends g c = ends_stop (g.M.Machine.run c.args.m.now) (g.M.Machine.run c.shadow.new.m) _ _ refl c.from_residual.ensures.0 c.in_err-shadow.ensures.ends

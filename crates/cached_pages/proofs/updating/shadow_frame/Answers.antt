@@ -41,38 +41,11 @@ returns-in_err-give_shadow-clause-order g c = c.give_shadow.ensures.order ∙ or
 pub returns-clause-order : goal.returns-clause-order
 returns-clause-order g c = c.give_shadow.ensures.order ∙ order_same _ _ c.mark_dirty.ensures.tables
 
-pub mark_dirty-requires-clause-sound : goal.mark_dirty-requires-clause-sound
-mark_dirty-requires-clause-sound g c = c.requires.sound
-
-pub mark_dirty-requires-clause-valid : goal.mark_dirty-requires-clause-valid
-mark_dirty-requires-clause-valid g c = c.requires.valid
-
-pub returns-in_err-mark_dirty-clause-sound : goal.returns-in_err-mark_dirty-clause-sound
-returns-in_err-mark_dirty-clause-sound g c = c.mark_dirty.ensures.sound
-
-pub returns-in_err-mark_dirty-clause-keeps : goal.returns-in_err-mark_dirty-clause-keeps
-returns-in_err-mark_dirty-clause-keeps g c = c.mark_dirty.ensures.keeps
-
-pub returns-in_err-mark_dirty-clause-still : goal.returns-in_err-mark_dirty-clause-still
-returns-in_err-mark_dirty-clause-still g c = c.mark_dirty.ensures.still
-
-pub returns-in_err-mark_dirty-clause-lasts : goal.returns-in_err-mark_dirty-clause-lasts
-returns-in_err-mark_dirty-clause-lasts g c = c.mark_dirty.ensures.lasts
-
 pub returns-in_err-mark_dirty-clause-forgotten : goal.returns-in_err-mark_dirty-clause-forgotten
 returns-in_err-mark_dirty-clause-forgotten g c = ap (λ (t : CacheTables). t.forgotten) c.mark_dirty.ensures.tables
 
 pub returns-in_err-mark_dirty-clause-order : goal.returns-in_err-mark_dirty-clause-order
 returns-in_err-mark_dirty-clause-order g c = order_same _ _ c.mark_dirty.ensures.tables
-
-pub give_shadow-requires-clause-sound : goal.give_shadow-requires-clause-sound
-give_shadow-requires-clause-sound g c = c.mark_dirty.ensures.sound
-
-pub give_shadow-requires-clause-dirty : goal.give_shadow-requires-clause-dirty
-give_shadow-requires-clause-dirty g c = c.in_ok-mark_dirty.ensures.dirty
-
-pub returns-in_err-give_shadow-clause-sound : goal.returns-in_err-give_shadow-clause-sound
-returns-in_err-give_shadow-clause-sound g c = c.give_shadow.ensures.sound
 
 pub returns-in_err-give_shadow-clause-keeps : goal.returns-in_err-give_shadow-clause-keeps
 returns-in_err-give_shadow-clause-keeps g c = keeps_then _ _ _ c.mark_dirty.ensures.keeps c.give_shadow.ensures.keeps
@@ -85,9 +58,6 @@ returns-in_err-give_shadow-clause-still g c = still_trans _ _ _ c.mark_dirty.ens
 
 pub returns-in_err-give_shadow-clause-lasts : goal.returns-in_err-give_shadow-clause-lasts
 returns-in_err-give_shadow-clause-lasts g c = lasts_then _ _ _ c.mark_dirty.ensures.lasts c.give_shadow.ensures.lasts
-
-pub returns-clause-sound : goal.returns-clause-sound
-returns-clause-sound g c = c.give_shadow.ensures.sound
 
 pub returns-clause-keeps : goal.returns-clause-keeps
 returns-clause-keeps g c = keeps_then _ _ _ c.mark_dirty.ensures.keeps c.give_shadow.ensures.keeps
@@ -113,15 +83,6 @@ returns-clause-marks g c = marks_trans _ _ _ _ (marks_held c.args.k _ _ c.mark_d
 pub returns-then-shadow_of_entry-ne0-clause-marks : goal.returns-then-shadow_of_entry-ne0-clause-marks
 returns-then-shadow_of_entry-ne0-clause-marks g c = marks_refl _ _
 
-pub shadow_of_entry-requires-clause-coherent : goal.shadow_of_entry-requires-clause-coherent
-shadow_of_entry-requires-clause-coherent g c = c.requires.sound.coherent
-
-pub shadow_of_entry-requires-clause-entry : goal.shadow_of_entry-requires-clause-entry
-shadow_of_entry-requires-clause-entry g c = c.requires.valid.within
-
-pub returns-then-shadow_of_entry-ne0-clause-sound : goal.returns-then-shadow_of_entry-ne0-clause-sound
-returns-then-shadow_of_entry-ne0-clause-sound g c = c.requires.sound
-
 pub returns-then-shadow_of_entry-ne0-clause-keeps : goal.returns-then-shadow_of_entry-ne0-clause-keeps
 returns-then-shadow_of_entry-ne0-clause-keeps g c = keeps_refl _
 
@@ -130,12 +91,6 @@ returns-then-shadow_of_entry-ne0-clause-pages g c = record { frames = refl; foun
 
 pub returns-then-shadow_of_entry-ne0-clause-gives : goal.returns-then-shadow_of_entry-ne0-clause-gives
 returns-then-shadow_of_entry-ne0-clause-gives g c = gives_had c.args.k _ _ (λ none. c.if-shadow_of_entry-ne0.true (c.shadow_of_entry.ensures ∙ none))
-
-pub returns-then-shadow_of_entry-ne0-clause-forgotten : goal.returns-then-shadow_of_entry-ne0-clause-forgotten
-returns-then-shadow_of_entry-ne0-clause-forgotten g c = refl
-
-pub returns-then-shadow_of_entry-ne0-clause-order : goal.returns-then-shadow_of_entry-ne0-clause-order
-returns-then-shadow_of_entry-ne0-clause-order g c = refl
 
 pub returns-then-shadow_of_entry-ne0-clause-still : goal.returns-then-shadow_of_entry-ne0-clause-still
 returns-then-shadow_of_entry-ne0-clause-still g c = still_refl _

@@ -10,29 +10,11 @@ use Rattle.directories.proofs.finding.find.Goals as goal
 pub dir_inode-requires-clause-can : goal.dir_inode-requires-clause-can
 dir_inode-requires-clause-can g c = can_read _ _ _ c.requires.shape c.requires.mapped c.requires.named c.requires.entries c.requires.dir
 
-pub find_at_inode-requires-clause-shape : goal.find_at_inode-requires-clause-shape
-find_at_inode-requires-clause-shape g c = c.in_ok-inode.ensures.can.has_shape
-
-pub find_at_inode-requires-clause-mapped : goal.find_at_inode-requires-clause-mapped
-find_at_inode-requires-clause-mapped g c = c.in_ok-inode.ensures.can.mapped
-
-pub find_at_inode-requires-clause-named : goal.find_at_inode-requires-clause-named
-find_at_inode-requires-clause-named g c = c.in_ok-inode.ensures.can.named
-
-pub find_at_inode-requires-clause-entries : goal.find_at_inode-requires-clause-entries
-find_at_inode-requires-clause-entries g c = c.in_ok-inode.ensures.can.entries
-
 pub find_at_inode-requires-clause-dir : goal.find_at_inode-requires-clause-dir
 find_at_inode-requires-clause-dir g c = subst (λ (f : BlockWords). (held_of c.args.shape.now f c.args.dir.0).kind ≡ 1) (sym c.in_ok-inode.ensures.looks.looks.words) c.requires.dir
 
 pub find_at_inode-requires-clause-inode : goal.find_at_inode-requires-clause-inode
 find_at_inode-requires-clause-inode g c = subst (λ (f : BlockWords). IsInode f c.args.dir.0 c.in_ok-inode.inode) (sym c.in_ok-inode.ensures.looks.looks.words) c.in_ok-inode.ensures.value
-
-pub returns-in_err-inode-clause-looks : goal.returns-in_err-inode-clause-looks
-returns-in_err-inode-clause-looks g c = c.dir_inode.ensures.looks.looks
-
-pub returns-in_err-inode-clause-shape : goal.returns-in_err-inode-clause-shape
-returns-in_err-inode-clause-shape g c = c.dir_inode.ensures.can.has_shape
 
 pub returns-in_err-inode-clause-named : goal.returns-in_err-inode-clause-named
 returns-in_err-inode-clause-named g c = subst (λ (f : BlockWords). AllNamed (volume_layout c.args.shape.now f) (g.V.Blocks.seen c.dir_inode.new.v)) c.dir_inode.ensures.looks.looks.words c.dir_inode.ensures.can.named
@@ -56,24 +38,6 @@ returns-clause-passes g c = g.met.V.Blocks.passes_trans _ _ _ c.in_ok-inode.ensu
 
 pub returns-clause-ends : goal.returns-clause-ends
 returns-clause-ends g c = ends_later _ _ _ c.find_at_inode.result c.in_ok-inode.ensures.ends.later c.in_ok-inode.ensures.ends.cause c.find_at_inode.ensures.ends
-
-pub dir_inode-requires-clause-sound : goal.dir_inode-requires-clause-sound
-dir_inode-requires-clause-sound g c = c.requires.sound
-
-pub find_at_inode-requires-clause-sound : goal.find_at_inode-requires-clause-sound
-find_at_inode-requires-clause-sound g c = c.dir_inode.ensures.sound
-
-pub returns-in_err-inode-clause-passes : goal.returns-in_err-inode-clause-passes
-returns-in_err-inode-clause-passes g c = c.dir_inode.ensures.passes
-
-pub returns-in_err-inode-clause-sound : goal.returns-in_err-inode-clause-sound
-returns-in_err-inode-clause-sound g c = c.dir_inode.ensures.sound
-
-pub returns-clause-shape : goal.returns-clause-shape
-returns-clause-shape g c = c.find_at_inode.ensures.shape
-
-pub returns-clause-sound : goal.returns-clause-sound
-returns-clause-sound g c = c.find_at_inode.ensures.sound
 
 pub returns-in_err-inode-clause-value : goal.returns-in_err-inode-clause-value
 returns-in_err-inode-clause-value g c = if_err c.from_residual.result _ c.from_residual.ensures.0

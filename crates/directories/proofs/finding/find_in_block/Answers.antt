@@ -9,56 +9,17 @@ use Rattle.directories.proofs.finding.find_in_block.Goals as goal
 pub returns-in-Some-clause-value : goal.returns-in-Some-clause-value
 returns-in-Some-clause-value g c = finds_read _ _ c.args.b.0 c.args.count c.in-Some.words.now c.args.name.now c.find_in.result c.word.ensures.looks.words c.requires.few c.requires.key.few c.in-Some.ensures.words c.find_in.ensures
 
-pub word-requires-clause-sound : goal.word-requires-clause-sound
-word-requires-clause-sound g c = c.requires.sound
-
-pub word-requires-clause-name : goal.word-requires-clause-name
-word-requires-clause-name g c = c.requires.can_name
-
 pub word-requires-clause-place : goal.word-requires-clause-place
 word-requires-clause-place g c = record { block = c.requires.block; word = omega arith }
 
-pub page-requires-clause-sound : goal.page-requires-clause-sound
-page-requires-clause-sound g c = c.word.ensures.sound
-
 pub page-requires-clause-block : goal.page-requires-clause-block
 page-requires-clause-block g c = subst (λ (n : ℕ). c.args.b.0 < n) (sym c.word.ensures.looks.count) c.requires.block
-
-pub returns-in_err-word-clause-looks : goal.returns-in_err-word-clause-looks
-returns-in_err-word-clause-looks g c = c.word.ensures.looks
-
-pub returns-in_err-word-clause-caches : goal.returns-in_err-word-clause-caches
-returns-in_err-word-clause-caches g c = c.word.ensures.caches
-
-pub returns-in_err-word-clause-passes : goal.returns-in_err-word-clause-passes
-returns-in_err-word-clause-passes g c = c.word.ensures.passes
-
-pub returns-in_err-word-clause-sound : goal.returns-in_err-word-clause-sound
-returns-in_err-word-clause-sound g c = c.word.ensures.sound
-
-pub returns-in-Some-clause-looks : goal.returns-in-Some-clause-looks
-returns-in-Some-clause-looks g c = c.word.ensures.looks
-
-pub returns-in-Some-clause-caches : goal.returns-in-Some-clause-caches
-returns-in-Some-clause-caches g c = c.word.ensures.caches
-
-pub returns-in-Some-clause-passes : goal.returns-in-Some-clause-passes
-returns-in-Some-clause-passes g c = c.word.ensures.passes
-
-pub returns-in-Some-clause-sound : goal.returns-in-Some-clause-sound
-returns-in-Some-clause-sound g c = c.word.ensures.sound
-
-pub find_in_copy-requires-clause-sound : goal.find_in_copy-requires-clause-sound
-find_in_copy-requires-clause-sound g c = c.word.ensures.sound
 
 pub find_in_copy-requires-clause-block : goal.find_in_copy-requires-clause-block
 find_in_copy-requires-clause-block g c = subst (λ (n : ℕ). c.args.b.0 < n) (sym c.word.ensures.looks.count) c.requires.block
 
 pub find_in_copy-requires-clause-can_name : goal.find_in_copy-requires-clause-can_name
 find_in_copy-requires-clause-can_name g c = can_name_on _ _ _ _ c.requires.can_name c.word.ensures.caches
-
-pub find_in_copy-requires-clause-few : goal.find_in_copy-requires-clause-few
-find_in_copy-requires-clause-few g c = c.requires.few
 
 pub returns-clause-looks : goal.returns-clause-looks
 returns-clause-looks g c = looks_trans _ _ _ c.word.ensures.looks c.find_in_copy.ensures.looks
@@ -68,9 +29,6 @@ returns-clause-caches g c = caches_trans _ _ _ _ _ c.word.ensures.caches c.find_
 
 pub returns-clause-passes : goal.returns-clause-passes
 returns-clause-passes g c = g.met.V.Blocks.passes_trans _ _ _ c.word.ensures.passes c.find_in_copy.ensures.passes
-
-pub returns-clause-sound : goal.returns-clause-sound
-returns-clause-sound g c = c.find_in_copy.ensures.sound
 
 pub returns-clause-ends : goal.returns-clause-ends
 returns-clause-ends g c = ends_later _ _ _ c.find_in_copy.result c.word.ensures.ends.later c.in_ok-word.ensures.ends.cause c.find_in_copy.ensures.ends
@@ -82,18 +40,6 @@ returns-in_err-word-clause-ends g c =
 
 pub returns-in-Some-clause-ends : goal.returns-in-Some-clause-ends
 returns-in-Some-clause-ends g c = ends_ok _ _ c.word.result _ _ c.in_ok-word.was c.word.ensures.ends
-
-pub find_in-requires-clause-few : goal.find_in-requires-clause-few
-find_in-requires-clause-few g c = c.requires.few
-
-pub find_in-requires-clause-key : goal.find_in-requires-clause-key
-find_in-requires-clause-key g c = c.requires.key
-
-pub find_in-requires-clause-len : goal.find_in-requires-clause-len
-find_in-requires-clause-len g c = c.in-Some.ensures.len
-
-pub find_in_copy-requires-clause-key : goal.find_in_copy-requires-clause-key
-find_in_copy-requires-clause-key g c = c.requires.key
 
 pub returns-clause-value : goal.returns-clause-value
 returns-clause-value g c = subst (λ (f : BlockWords). IfOk c.find_in_copy.result (FindsIn (f c.args.b.0) c.args.count c.args.name.now)) c.word.ensures.looks.words c.find_in_copy.ensures.value

@@ -64,37 +64,7 @@ returns-clause-ends g c = ends_later _ _ _ c.find_in_block.result c.in_ok-b.ensu
 pub returns-clause-passes : goal.returns-clause-passes
 returns-clause-passes g c = g.met.V.Blocks.passes_trans _ _ _ c.page_block.ensures.passes c.find_in_block.ensures.passes
 
-pub page_block-requires-clause-sound : goal.page_block-requires-clause-sound
-page_block-requires-clause-sound g c = c.requires.sound
-
-pub page_block-requires-clause-can : goal.page_block-requires-clause-can
-page_block-requires-clause-can g c = c.requires.can
-
-pub page_block-requires-clause-inode : goal.page_block-requires-clause-inode
-page_block-requires-clause-inode g c = c.requires.inode
-
-pub returns-in_err-b-clause-looks : goal.returns-in_err-b-clause-looks
-returns-in_err-b-clause-looks g c = c.page_block.ensures.looks
-
-pub returns-in_err-b-clause-can : goal.returns-in_err-b-clause-can
-returns-in_err-b-clause-can g c = c.page_block.ensures.can
-
-pub returns-in_err-b-clause-passes : goal.returns-in_err-b-clause-passes
-returns-in_err-b-clause-passes g c = c.page_block.ensures.passes
-
-pub returns-in_err-b-clause-sound : goal.returns-in_err-b-clause-sound
-returns-in_err-b-clause-sound g c = c.page_block.ensures.sound
-
-pub find_in_block-requires-clause-sound : goal.find_in_block-requires-clause-sound
-find_in_block-requires-clause-sound g c = c.page_block.ensures.sound
-
-pub find_in_block-requires-clause-key : goal.find_in_block-requires-clause-key
-find_in_block-requires-clause-key g c = c.requires.key
-
 pub find_in_block-requires-clause-few : goal.find_in_block-requires-clause-few
 find_in_block-requires-clause-few g c =
     let count = c.entries_in_page-count.ensures in
     omega (arith, count)
-
-pub returns-clause-sound : goal.returns-clause-sound
-returns-clause-sound g c = c.find_in_block.ensures.sound

@@ -74,33 +74,6 @@ overflow_add-result g c =
     let size : (held_of shape x.words c.args.dir.0).size ≡ n.size = ap (λ (h : Held). h.size) (dir_held shape x c.args.dir.0 c.requires.can) ∙ sized x.words n used in
     omega (arith, at.within, size, fits.most)
 
-pub find_in_page-requires-clause-sound : goal.find_in_page-requires-clause-sound
-find_in_page-requires-clause-sound g c = c.loop-p.invariant.sound
-
-pub find_in_page-requires-clause-can : goal.find_in_page-requires-clause-can
-find_in_page-requires-clause-can g c = c.loop-p.invariant.can
-
-pub find_in_page-requires-clause-inode : goal.find_in_page-requires-clause-inode
-find_in_page-requires-clause-inode g c = c.loop-p.invariant.inode
-
-pub find_in_page-requires-clause-key : goal.find_in_page-requires-clause-key
-find_in_page-requires-clause-key g c = c.requires.key
-
-pub returns-in_err-i-clause-sound : goal.returns-in_err-i-clause-sound
-returns-in_err-i-clause-sound g c = c.find_in_page.ensures.sound
-
-pub returns-in-Some-clause-sound : goal.returns-in-Some-clause-sound
-returns-in-Some-clause-sound g c = c.find_in_page.ensures.sound
-
-pub returns-clause-looks : goal.returns-clause-looks
-returns-clause-looks g c = c.loop-p.invariant.looks
-
-pub returns-clause-passes : goal.returns-clause-passes
-returns-clause-passes g c = c.loop-p.invariant.passes
-
-pub returns-clause-sound : goal.returns-clause-sound
-returns-clause-sound g c = c.loop-p.invariant.sound
-
 pub returns-clause-ends : goal.returns-clause-ends
 returns-clause-ends g c = record { later = c.loop-p.invariant.later; stays = λ on. c.loop-p.invariant.running ∙ on; cause = c.loop-p.invariant.running }
 

@@ -40,15 +40,6 @@ returns-in_err-entry-clause-ends g c =
     let p = err_from_is_err_and c.from_residual.result c.from_residual.ensures.1 in
     ends_err _ _ c.read_entry.result c.from_residual.result _ p.0 c.in_err-entry.was p.1 p.2 c.read_entry.ensures.ends
 
-pub returns-then-is_empty-clause-shape : goal.returns-then-is_empty-clause-shape
-returns-then-is_empty-clause-shape g c = c.requires.shape
-
-pub returns-then-is_empty-clause-named : goal.returns-then-is_empty-clause-named
-returns-then-is_empty-clause-named g c = c.requires.named
-
-pub returns-then-is_empty-clause-sound : goal.returns-then-is_empty-clause-sound
-returns-then-is_empty-clause-sound g c = c.requires.sound
-
 pub returns-then-is_empty-clause-passes : goal.returns-then-is_empty-clause-passes
 returns-then-is_empty-clause-passes g c = g.met.V.Blocks.passes_refl _
 
@@ -57,18 +48,6 @@ returns-then-is_empty-clause-looks g c = looks_refl _
 
 pub returns-then-is_empty-clause-ends : goal.returns-then-is_empty-clause-ends
 returns-then-is_empty-clause-ends g c = record { later = le_refl _; stays = λ on. on; cause = refl }
-
-pub returns-then-is_empty-clause-value : goal.returns-then-is_empty-clause-value
-returns-then-is_empty-clause-value g c = tt
-
-pub returns-then-name-gt-NAME_BYTES-clause-shape : goal.returns-then-name-gt-NAME_BYTES-clause-shape
-returns-then-name-gt-NAME_BYTES-clause-shape g c = c.requires.shape
-
-pub returns-then-name-gt-NAME_BYTES-clause-named : goal.returns-then-name-gt-NAME_BYTES-clause-named
-returns-then-name-gt-NAME_BYTES-clause-named g c = c.requires.named
-
-pub returns-then-name-gt-NAME_BYTES-clause-sound : goal.returns-then-name-gt-NAME_BYTES-clause-sound
-returns-then-name-gt-NAME_BYTES-clause-sound g c = c.requires.sound
 
 pub returns-then-name-gt-NAME_BYTES-clause-passes : goal.returns-then-name-gt-NAME_BYTES-clause-passes
 returns-then-name-gt-NAME_BYTES-clause-passes g c = g.met.V.Blocks.passes_refl _
@@ -79,71 +58,14 @@ returns-then-name-gt-NAME_BYTES-clause-looks g c = looks_refl _
 pub returns-then-name-gt-NAME_BYTES-clause-ends : goal.returns-then-name-gt-NAME_BYTES-clause-ends
 returns-then-name-gt-NAME_BYTES-clause-ends g c = record { later = le_refl _; stays = λ on. on; cause = refl }
 
-pub returns-then-name-gt-NAME_BYTES-clause-value : goal.returns-then-name-gt-NAME_BYTES-clause-value
-returns-then-name-gt-NAME_BYTES-clause-value g c = tt
-
-pub read_entry-requires-clause-sound : goal.read_entry-requires-clause-sound
-read_entry-requires-clause-sound g c = c.requires.sound
-
-pub read_entry-requires-clause-inode : goal.read_entry-requires-clause-inode
-read_entry-requires-clause-inode g c = c.requires.inode
-
-pub returns-in_err-entry-clause-passes : goal.returns-in_err-entry-clause-passes
-returns-in_err-entry-clause-passes g c = c.read_entry.ensures.passes
-
-pub returns-in_err-entry-clause-sound : goal.returns-in_err-entry-clause-sound
-returns-in_err-entry-clause-sound g c = c.read_entry.ensures.sound
-
-pub returns-in_err-entry-clause-looks : goal.returns-in_err-entry-clause-looks
-returns-in_err-entry-clause-looks g c = c.read_entry.ensures.looks.looks
-
-pub returns-in_err-entry-clause-shape : goal.returns-in_err-entry-clause-shape
-returns-in_err-entry-clause-shape g c = c.read_entry.ensures.can.has_shape
-
-pub returns-then-not-has_name-clause-passes : goal.returns-then-not-has_name-clause-passes
-returns-then-not-has_name-clause-passes g c = c.read_entry.ensures.passes
-
-pub returns-then-not-has_name-clause-sound : goal.returns-then-not-has_name-clause-sound
-returns-then-not-has_name-clause-sound g c = c.read_entry.ensures.sound
-
-pub returns-then-not-has_name-clause-looks : goal.returns-then-not-has_name-clause-looks
-returns-then-not-has_name-clause-looks g c = c.read_entry.ensures.looks.looks
-
-pub returns-then-not-has_name-clause-shape : goal.returns-then-not-has_name-clause-shape
-returns-then-not-has_name-clause-shape g c = c.read_entry.ensures.can.has_shape
-
-pub returns-clause-passes : goal.returns-clause-passes
-returns-clause-passes g c = c.read_entry.ensures.passes
-
-pub returns-clause-sound : goal.returns-clause-sound
-returns-clause-sound g c = c.read_entry.ensures.sound
-
-pub returns-clause-looks : goal.returns-clause-looks
-returns-clause-looks g c = c.read_entry.ensures.looks.looks
-
-pub returns-clause-shape : goal.returns-clause-shape
-returns-clause-shape g c = c.read_entry.ensures.can.has_shape
-
 pub returns-then-not-has_name-clause-ends : goal.returns-then-not-has_name-clause-ends
 returns-then-not-has_name-clause-ends g c = ends_ok _ _ c.read_entry.result _ _ c.in_ok-entry.was c.read_entry.ensures.ends
 
 pub returns-clause-ends : goal.returns-clause-ends
 returns-clause-ends g c = ends_ok _ _ c.read_entry.result _ _ c.in_ok-entry.was c.read_entry.ensures.ends
 
-pub returns-then-not-has_name-clause-value : goal.returns-then-not-has_name-clause-value
-returns-then-not-has_name-clause-value g c = tt
-
 pub returns-clause-none : goal.returns-clause-none
 returns-clause-none g c = λ is. absurd cc
-
-pub returns-then-slot-inode-clause-shape : goal.returns-then-slot-inode-clause-shape
-returns-then-slot-inode-clause-shape g c = c.requires.shape
-
-pub returns-then-slot-inode-clause-named : goal.returns-then-slot-inode-clause-named
-returns-then-slot-inode-clause-named g c = c.requires.named
-
-pub returns-then-slot-inode-clause-sound : goal.returns-then-slot-inode-clause-sound
-returns-then-slot-inode-clause-sound g c = c.requires.sound
 
 pub returns-then-slot-inode-clause-passes : goal.returns-then-slot-inode-clause-passes
 returns-then-slot-inode-clause-passes g c = g.met.V.Blocks.passes_refl _
@@ -153,9 +75,6 @@ returns-then-slot-inode-clause-looks g c = looks_refl _
 
 pub returns-then-slot-inode-clause-ends : goal.returns-then-slot-inode-clause-ends
 returns-then-slot-inode-clause-ends g c = record { later = le_refl _; stays = λ on. on; cause = refl }
-
-pub returns-then-slot-inode-clause-value : goal.returns-then-slot-inode-clause-value
-returns-then-slot-inode-clause-value g c = tt
 
 pub returns-then-name-gt-NAME_BYTES-clause-none : goal.returns-then-name-gt-NAME_BYTES-clause-none
 returns-then-name-gt-NAME_BYTES-clause-none g c = λ none i row. let sized = entry_sized (held_of c.args.shape.now (g.V.Blocks.seen c.args.v.now).words) c.args.dir.0 c.args.slot i c.args.name.now c.requires.entries c.requires.dir row in omega (arith, sized.1)

@@ -103,39 +103,6 @@ returns-clause-value g c =
     let all : c.loop-slot.slot ≡ h.size / 64 = omega (arith, size, is) in
     subst (λ names. HoldsRows h names) (ap (λ k. put_rows empty (map (row_of h) (range_with_len 0 k))) (sym all) ∙ sym c.loop-slot.invariant.rows) (rows_held h (omega (arith, size, whole)) c.requires.apart)
 
-pub read_entry-requires-clause-sound : goal.read_entry-requires-clause-sound
-read_entry-requires-clause-sound g c = c.loop-slot.invariant.sound
-
-pub read_entry-requires-clause-can : goal.read_entry-requires-clause-can
-read_entry-requires-clause-can g c = c.loop-slot.invariant.can
-
-pub read_entry-requires-clause-inode : goal.read_entry-requires-clause-inode
-read_entry-requires-clause-inode g c = c.loop-slot.invariant.inode
-
-pub returns-in_err-entry-clause-sound : goal.returns-in_err-entry-clause-sound
-returns-in_err-entry-clause-sound g c = c.read_entry.ensures.sound
-
-pub returns-in_err-entry-clause-shape : goal.returns-in_err-entry-clause-shape
-returns-in_err-entry-clause-shape g c = c.read_entry.ensures.can.has_shape
-
-pub returns-in_err-put_entry-clause-sound : goal.returns-in_err-put_entry-clause-sound
-returns-in_err-put_entry-clause-sound g c = c.read_entry.ensures.sound
-
-pub returns-in_err-put_entry-clause-shape : goal.returns-in_err-put_entry-clause-shape
-returns-in_err-put_entry-clause-shape g c = c.read_entry.ensures.can.has_shape
-
-pub returns-clause-passes : goal.returns-clause-passes
-returns-clause-passes g c = c.loop-slot.invariant.passes
-
-pub returns-clause-sound : goal.returns-clause-sound
-returns-clause-sound g c = c.loop-slot.invariant.sound
-
-pub returns-clause-looks : goal.returns-clause-looks
-returns-clause-looks g c = c.loop-slot.invariant.looks.looks
-
-pub returns-clause-shape : goal.returns-clause-shape
-returns-clause-shape g c = c.loop-slot.invariant.can.has_shape
-
 pub returns-clause-ends : goal.returns-clause-ends
 returns-clause-ends g c = ends_by_well _ _ _ _ c.loop-slot.invariant.later c.loop-slot.invariant.running (λ a. cc) (λ a. cc)
 

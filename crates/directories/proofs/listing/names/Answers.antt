@@ -25,26 +25,8 @@ returns-clause-value g c =
     c.sort.ensures.all
     c.sort.ensures.order
 
-pub dir_inode-requires-clause-sound : goal.dir_inode-requires-clause-sound
-dir_inode-requires-clause-sound g c = c.requires.sound
-
-pub slot_names-requires-clause-sound : goal.slot_names-requires-clause-sound
-slot_names-requires-clause-sound g c = c.dir_inode.ensures.sound
-
-pub returns-in_err-inode-clause-passes : goal.returns-in_err-inode-clause-passes
-returns-in_err-inode-clause-passes g c = c.dir_inode.ensures.passes
-
-pub returns-in_err-inode-clause-sound : goal.returns-in_err-inode-clause-sound
-returns-in_err-inode-clause-sound g c = c.dir_inode.ensures.sound
-
-pub returns-in_err-names-clause-sound : goal.returns-in_err-names-clause-sound
-returns-in_err-names-clause-sound g c = c.slot_names.ensures.sound
-
 pub returns-in_err-names-clause-passes : goal.returns-in_err-names-clause-passes
 returns-in_err-names-clause-passes g c = g.met.V.Blocks.passes_trans _ _ _ c.dir_inode.ensures.passes c.slot_names.ensures.passes
-
-pub returns-clause-sound : goal.returns-clause-sound
-returns-clause-sound g c = c.slot_names.ensures.sound
 
 pub returns-clause-passes : goal.returns-clause-passes
 returns-clause-passes g c = g.met.V.Blocks.passes_trans _ _ _ c.dir_inode.ensures.passes c.slot_names.ensures.passes
@@ -52,17 +34,8 @@ returns-clause-passes g c = g.met.V.Blocks.passes_trans _ _ _ c.dir_inode.ensure
 pub dir_inode-requires-clause-can : goal.dir_inode-requires-clause-can
 dir_inode-requires-clause-can g c = can_read _ _ _ c.requires.shape c.requires.mapped c.requires.named c.requires.entries c.requires.dir
 
-pub slot_names-requires-clause-can : goal.slot_names-requires-clause-can
-slot_names-requires-clause-can g c = c.in_ok-inode.ensures.can
-
 pub slot_names-requires-clause-inode : goal.slot_names-requires-clause-inode
 slot_names-requires-clause-inode g c = subst (λ (f : BlockWords). IsInode f c.args.dir.0 c.in_ok-inode.inode) (sym c.in_ok-inode.ensures.looks.looks.words) c.in_ok-inode.ensures.value
-
-pub returns-in_err-inode-clause-looks : goal.returns-in_err-inode-clause-looks
-returns-in_err-inode-clause-looks g c = c.dir_inode.ensures.looks.looks
-
-pub returns-in_err-inode-clause-shape : goal.returns-in_err-inode-clause-shape
-returns-in_err-inode-clause-shape g c = c.dir_inode.ensures.can.has_shape
 
 pub returns-in_err-inode-clause-named : goal.returns-in_err-inode-clause-named
 returns-in_err-inode-clause-named g c = named_on c.args.shape.now (g.V.Blocks.seen c.args.v.now) _ c.requires.mapped c.requires.named c.dir_inode.ensures.looks
@@ -75,14 +48,8 @@ returns-in_err-inode-clause-ends g c =
 pub returns-in_err-names-clause-looks : goal.returns-in_err-names-clause-looks
 returns-in_err-names-clause-looks g c = looks_trans _ _ _ c.dir_inode.ensures.looks.looks c.slot_names.ensures.looks.looks
 
-pub returns-in_err-names-clause-shape : goal.returns-in_err-names-clause-shape
-returns-in_err-names-clause-shape g c = c.slot_names.ensures.looks.still.has_shape
-
 pub returns-clause-looks : goal.returns-clause-looks
 returns-clause-looks g c = looks_trans _ _ _ c.dir_inode.ensures.looks.looks c.slot_names.ensures.looks.looks
-
-pub returns-clause-shape : goal.returns-clause-shape
-returns-clause-shape g c = c.slot_names.ensures.looks.still.has_shape
 
 pub returns-in_err-names-clause-ends : goal.returns-in_err-names-clause-ends
 returns-in_err-names-clause-ends g c =

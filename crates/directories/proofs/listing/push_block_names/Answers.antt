@@ -10,56 +10,17 @@ use Rattle.directories.proofs.listing.push_block_names.Goals as goal
 pub returns-in-Some-clause-value : goal.returns-in-Some-clause-value
 returns-in-Some-clause-value g c = names_read _ _ c.args.b.0 c.args.count c.in-Some.words.now c.args.names.now c.push_names.new.names c.word.ensures.looks.words c.requires.few c.requires.short c.in-Some.ensures.words c.in_ok-push_names.ensures
 
-pub word-requires-clause-sound : goal.word-requires-clause-sound
-word-requires-clause-sound g c = c.requires.sound
-
-pub word-requires-clause-name : goal.word-requires-clause-name
-word-requires-clause-name g c = c.requires.can_name
-
 pub word-requires-clause-place : goal.word-requires-clause-place
 word-requires-clause-place g c = record { block = c.requires.block; word = omega arith }
 
-pub page-requires-clause-sound : goal.page-requires-clause-sound
-page-requires-clause-sound g c = c.word.ensures.sound
-
 pub page-requires-clause-block : goal.page-requires-clause-block
 page-requires-clause-block g c = subst (λ (n : ℕ). c.args.b.0 < n) (sym c.word.ensures.looks.count) c.requires.block
-
-pub returns-in_err-word-clause-looks : goal.returns-in_err-word-clause-looks
-returns-in_err-word-clause-looks g c = c.word.ensures.looks
-
-pub returns-in_err-word-clause-caches : goal.returns-in_err-word-clause-caches
-returns-in_err-word-clause-caches g c = c.word.ensures.caches
-
-pub returns-in_err-word-clause-passes : goal.returns-in_err-word-clause-passes
-returns-in_err-word-clause-passes g c = c.word.ensures.passes
-
-pub returns-in_err-word-clause-sound : goal.returns-in_err-word-clause-sound
-returns-in_err-word-clause-sound g c = c.word.ensures.sound
-
-pub returns-in-Some-clause-looks : goal.returns-in-Some-clause-looks
-returns-in-Some-clause-looks g c = c.word.ensures.looks
-
-pub returns-in-Some-clause-caches : goal.returns-in-Some-clause-caches
-returns-in-Some-clause-caches g c = c.word.ensures.caches
-
-pub returns-in-Some-clause-passes : goal.returns-in-Some-clause-passes
-returns-in-Some-clause-passes g c = c.word.ensures.passes
-
-pub returns-in-Some-clause-sound : goal.returns-in-Some-clause-sound
-returns-in-Some-clause-sound g c = c.word.ensures.sound
-
-pub push_copied_names-requires-clause-sound : goal.push_copied_names-requires-clause-sound
-push_copied_names-requires-clause-sound g c = c.word.ensures.sound
 
 pub push_copied_names-requires-clause-block : goal.push_copied_names-requires-clause-block
 push_copied_names-requires-clause-block g c = subst (λ (n : ℕ). c.args.b.0 < n) (sym c.word.ensures.looks.count) c.requires.block
 
 pub push_copied_names-requires-clause-can_name : goal.push_copied_names-requires-clause-can_name
 push_copied_names-requires-clause-can_name g c = can_name_on _ _ _ _ c.requires.can_name c.word.ensures.caches
-
-pub push_copied_names-requires-clause-few : goal.push_copied_names-requires-clause-few
-push_copied_names-requires-clause-few g c = c.requires.few
 
 pub returns-clause-looks : goal.returns-clause-looks
 returns-clause-looks g c = looks_trans _ _ _ c.word.ensures.looks c.push_copied_names.ensures.looks
@@ -69,9 +30,6 @@ returns-clause-caches g c = caches_trans _ _ _ _ _ c.word.ensures.caches c.push_
 
 pub returns-clause-passes : goal.returns-clause-passes
 returns-clause-passes g c = g.met.V.Blocks.passes_trans _ _ _ c.word.ensures.passes c.push_copied_names.ensures.passes
-
-pub returns-clause-sound : goal.returns-clause-sound
-returns-clause-sound g c = c.push_copied_names.ensures.sound
 
 pub returns-clause-ends : goal.returns-clause-ends
 returns-clause-ends g c = ends_by_after _ _ _ _ _ c.word.ensures.ends.later c.in_ok-word.ensures.ends.cause c.push_copied_names.ensures.ends
@@ -84,29 +42,11 @@ returns-in_err-word-clause-ends g c =
 pub returns-in-Some-clause-ends : goal.returns-in-Some-clause-ends
 returns-in-Some-clause-ends g c = ends_by_well _ _ _ _ c.word.ensures.ends.later c.in_ok-word.ensures.ends.cause (λ a. cc) (λ a. cc)
 
-pub push_names-requires-clause-few : goal.push_names-requires-clause-few
-push_names-requires-clause-few g c = c.requires.few
-
-pub push_names-requires-clause-len : goal.push_names-requires-clause-len
-push_names-requires-clause-len g c = c.in-Some.ensures.len
-
 pub push_copied_names-requires-clause-short : goal.push_copied_names-requires-clause-short
 push_copied_names-requires-clause-short g c = subst (λ (f : BlockWords). (k : ℕ) → k < c.args.count → f c.args.b.0 (8 * k) / 2 ^ 32 % 2 ^ 8 ≤ 56) (sym c.word.ensures.looks.words) c.requires.short
 
 pub returns-clause-value : goal.returns-clause-value
 returns-clause-value g c = subst (λ (f : BlockWords). OnOk c.push_copied_names.result (c.push_copied_names.new.names ≡ c.args.names.now ++ map (name_in (f c.args.b.0)) (range_with_len 0 c.args.count))) c.word.ensures.looks.words c.push_copied_names.ensures.value
-
-pub returns-in_err-push_names-clause-looks : goal.returns-in_err-push_names-clause-looks
-returns-in_err-push_names-clause-looks g c = c.word.ensures.looks
-
-pub returns-in_err-push_names-clause-caches : goal.returns-in_err-push_names-clause-caches
-returns-in_err-push_names-clause-caches g c = c.word.ensures.caches
-
-pub returns-in_err-push_names-clause-passes : goal.returns-in_err-push_names-clause-passes
-returns-in_err-push_names-clause-passes g c = c.word.ensures.passes
-
-pub returns-in_err-push_names-clause-sound : goal.returns-in_err-push_names-clause-sound
-returns-in_err-push_names-clause-sound g c = c.word.ensures.sound
 
 pub returns-in_err-push_names-clause-ends : goal.returns-in_err-push_names-clause-ends
 returns-in_err-push_names-clause-ends g c =

@@ -7,48 +7,6 @@ use Rattle.directories.proofs.listing.push_copied_names.Goals as goal
 pub returns-clause-value : goal.returns-clause-value
 returns-clause-value g c = names_read _ _ c.args.b.0 c.args.count c.read_run.new.into c.args.names.now c.push_names.new.names refl c.requires.few c.requires.short c.in_ok-read_run.ensures.words c.in_ok-push_names.ensures
 
-pub read_run-requires-clause-sound : goal.read_run-requires-clause-sound
-read_run-requires-clause-sound g c = c.requires.sound
-
-pub returns-in_err-read_run-clause-looks : goal.returns-in_err-read_run-clause-looks
-returns-in_err-read_run-clause-looks g c = c.read_run.ensures.looks
-
-pub returns-in_err-read_run-clause-caches : goal.returns-in_err-read_run-clause-caches
-returns-in_err-read_run-clause-caches g c = c.read_run.ensures.caches
-
-pub returns-in_err-read_run-clause-passes : goal.returns-in_err-read_run-clause-passes
-returns-in_err-read_run-clause-passes g c = c.read_run.ensures.passes
-
-pub returns-in_err-read_run-clause-sound : goal.returns-in_err-read_run-clause-sound
-returns-in_err-read_run-clause-sound g c = c.read_run.ensures.sound
-
-pub returns-in_err-push_names-clause-looks : goal.returns-in_err-push_names-clause-looks
-returns-in_err-push_names-clause-looks g c = c.read_run.ensures.looks
-
-pub returns-in_err-push_names-clause-caches : goal.returns-in_err-push_names-clause-caches
-returns-in_err-push_names-clause-caches g c = c.read_run.ensures.caches
-
-pub returns-in_err-push_names-clause-passes : goal.returns-in_err-push_names-clause-passes
-returns-in_err-push_names-clause-passes g c = c.read_run.ensures.passes
-
-pub returns-in_err-push_names-clause-sound : goal.returns-in_err-push_names-clause-sound
-returns-in_err-push_names-clause-sound g c = c.read_run.ensures.sound
-
-pub returns-clause-looks : goal.returns-clause-looks
-returns-clause-looks g c = c.read_run.ensures.looks
-
-pub returns-clause-caches : goal.returns-clause-caches
-returns-clause-caches g c = c.read_run.ensures.caches
-
-pub returns-clause-passes : goal.returns-clause-passes
-returns-clause-passes g c = c.read_run.ensures.passes
-
-pub returns-clause-sound : goal.returns-clause-sound
-returns-clause-sound g c = c.read_run.ensures.sound
-
-pub read_run-requires-clause-name : goal.read_run-requires-clause-name
-read_run-requires-clause-name g c = c.requires.can_name
-
 pub returns-in_err-read_run-clause-ends : goal.returns-in_err-read_run-clause-ends
 returns-in_err-read_run-clause-ends g c =
     let p = err_from_is_err_and c.from_residual.result c.from_residual.ensures.1 in
@@ -61,9 +19,6 @@ returns-in_err-push_names-clause-ends g c =
 
 pub returns-clause-ends : goal.returns-clause-ends
 returns-clause-ends g c = ends_by_well _ _ _ _ c.read_run.ensures.ends.later c.in_ok-read_run.ensures.ends.cause (λ a. cc) (λ a. cc)
-
-pub push_names-requires-clause-few : goal.push_names-requires-clause-few
-push_names-requires-clause-few g c = c.requires.few
 
 pub push_names-requires-clause-short : goal.push_names-requires-clause-short
 push_names-requires-clause-short g c = short_read _ _ c.args.b.0 c.args.count c.read_run.new.into refl c.requires.few c.requires.short c.in_ok-read_run.ensures.words

@@ -79,30 +79,6 @@ returns-clause-can g c = can_stays c.args.shape.now _ _ c.args.dir.0 c.requires.
 pub returns-clause-ends : goal.returns-clause-ends
 returns-clause-ends g c = ends_by_after _ _ _ _ _ c.in_ok-b.ensures.ends.later c.in_ok-b.ensures.ends.cause c.push_block_names.ensures.ends
 
-pub page_block-requires-clause-sound : goal.page_block-requires-clause-sound
-page_block-requires-clause-sound g c = c.requires.sound
-
-pub page_block-requires-clause-can : goal.page_block-requires-clause-can
-page_block-requires-clause-can g c = c.requires.can
-
-pub page_block-requires-clause-inode : goal.page_block-requires-clause-inode
-page_block-requires-clause-inode g c = c.requires.inode
-
-pub returns-in_err-b-clause-looks : goal.returns-in_err-b-clause-looks
-returns-in_err-b-clause-looks g c = c.page_block.ensures.looks
-
-pub returns-in_err-b-clause-can : goal.returns-in_err-b-clause-can
-returns-in_err-b-clause-can g c = c.page_block.ensures.can
-
-pub returns-in_err-b-clause-passes : goal.returns-in_err-b-clause-passes
-returns-in_err-b-clause-passes g c = c.page_block.ensures.passes
-
-pub returns-in_err-b-clause-sound : goal.returns-in_err-b-clause-sound
-returns-in_err-b-clause-sound g c = c.page_block.ensures.sound
-
-pub push_block_names-requires-clause-sound : goal.push_block_names-requires-clause-sound
-push_block_names-requires-clause-sound g c = c.page_block.ensures.sound
-
 pub push_block_names-requires-clause-few : goal.push_block_names-requires-clause-few
 push_block_names-requires-clause-few g c =
     let count = c.entries_in_page-count.ensures in
@@ -110,6 +86,3 @@ push_block_names-requires-clause-few g c =
 
 pub returns-clause-passes : goal.returns-clause-passes
 returns-clause-passes g c = g.met.V.Blocks.passes_trans _ _ _ c.page_block.ensures.passes c.push_block_names.ensures.passes
-
-pub returns-clause-sound : goal.returns-clause-sound
-returns-clause-sound g c = c.push_block_names.ensures.sound

@@ -40,40 +40,16 @@ loop-p-preserved g c =
       running = call.ends.runs (λ stop. cc) ∙ inv.running;
     }
 
-pub push_page_names-requires-clause-sound : goal.push_page_names-requires-clause-sound
-push_page_names-requires-clause-sound g c = c.loop-p.invariant.sound
-
-pub push_page_names-requires-clause-can : goal.push_page_names-requires-clause-can
-push_page_names-requires-clause-can g c = c.loop-p.invariant.can
-
-pub push_page_names-requires-clause-inode : goal.push_page_names-requires-clause-inode
-push_page_names-requires-clause-inode g c = c.loop-p.invariant.inode
-
 pub push_page_names-requires-clause-page : goal.push_page_names-requires-clause-page
 push_page_names-requires-clause-page g c = omega (arith, c.loop-p-test.true, c.div_ceil-pages.ensures)
 
 pub returns-in_err-names-clause-passes : goal.returns-in_err-names-clause-passes
 returns-in_err-names-clause-passes g c = g.met.V.Blocks.passes_refl _
 
-pub returns-in_err-names-clause-sound : goal.returns-in_err-names-clause-sound
-returns-in_err-names-clause-sound g c = c.requires.sound
-
 pub returns-in_err-names-clause-ends : goal.returns-in_err-names-clause-ends
 returns-in_err-names-clause-ends g c =
     let p = err_from_is_err_and c.from_residual.result c.from_residual.ensures.1 in
     ends_read_memory _ _ c.from_residual.result _ p.1 p.2 (le_refl _) refl
-
-pub returns-in_err-push_page_names-clause-sound : goal.returns-in_err-push_page_names-clause-sound
-returns-in_err-push_page_names-clause-sound g c = c.push_page_names.ensures.sound
-
-pub returns-clause-looks : goal.returns-clause-looks
-returns-clause-looks g c = c.loop-p.invariant.looks
-
-pub returns-clause-passes : goal.returns-clause-passes
-returns-clause-passes g c = c.loop-p.invariant.passes
-
-pub returns-clause-sound : goal.returns-clause-sound
-returns-clause-sound g c = c.loop-p.invariant.sound
 
 pub returns-clause-ends : goal.returns-clause-ends
 returns-clause-ends g c = ends_by_well _ _ _ _ c.loop-p.invariant.later c.loop-p.invariant.running (λ a. cc) (λ a. cc)

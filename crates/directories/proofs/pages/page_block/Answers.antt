@@ -23,33 +23,3 @@ returns-then-p-lt-DIRECT_PAGES-clause-ends g c = record { later = omega arith; s
 
 pub block_of-requires-clause-can : goal.block_of-requires-clause-can
 block_of-requires-clause-can g c = can_look c.args.shape.now _ c.args.dir.0 c.requires.can
-
-pub returns-then-p-lt-DIRECT_PAGES-clause-can : goal.returns-then-p-lt-DIRECT_PAGES-clause-can
-returns-then-p-lt-DIRECT_PAGES-clause-can g c = c.requires.can
-
-pub returns-then-p-lt-DIRECT_PAGES-clause-sound : goal.returns-then-p-lt-DIRECT_PAGES-clause-sound
-returns-then-p-lt-DIRECT_PAGES-clause-sound g c = c.requires.sound
-
-pub returns-clause-value : goal.returns-clause-value
-returns-clause-value g c = c.block_of.ensures.value
-
-pub returns-clause-looks : goal.returns-clause-looks
-returns-clause-looks g c = c.block_of.ensures.looks
-
-pub returns-clause-passes : goal.returns-clause-passes
-returns-clause-passes g c = c.block_of.ensures.passes
-
-pub returns-clause-ends : goal.returns-clause-ends
-returns-clause-ends g c = c.block_of.ensures.ends
-
-pub returns-clause-sound : goal.returns-clause-sound
-returns-clause-sound g c = c.block_of.ensures.sound
-
-pub block_of-requires-clause-sound : goal.block_of-requires-clause-sound
-block_of-requires-clause-sound g c = c.requires.sound
-
-pub block_of-requires-clause-page : goal.block_of-requires-clause-page
-block_of-requires-clause-page g c = c.requires.page
-
-pub block_of-requires-clause-ino : goal.block_of-requires-clause-ino
-block_of-requires-clause-ino g c = c.requires.can.ino

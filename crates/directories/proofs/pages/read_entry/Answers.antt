@@ -29,20 +29,8 @@ returns-clause-looks g c =
 pub returns-clause-can : goal.returns-clause-can
 returns-clause-can g c = can_stays c.args.shape.now _ _ c.args.dir.0 c.requires.can (returns-clause-looks g c)
 
-pub page_block-requires-clause-sound : goal.page_block-requires-clause-sound
-page_block-requires-clause-sound g c = c.requires.sound
-
-pub page_block-requires-clause-can : goal.page_block-requires-clause-can
-page_block-requires-clause-can g c = c.requires.can
-
-pub page_block-requires-clause-inode : goal.page_block-requires-clause-inode
-page_block-requires-clause-inode g c = c.requires.inode
-
 pub page_block-requires-clause-page : goal.page_block-requires-clause-page
 page_block-requires-clause-page g c = has_slot c.args.shape.now (g.V.Blocks.seen c.args.v.now) c.args.dir.0 c.args.slot _ c.requires.can c.requires.inode.size c.requires.slot
-
-pub read_run-requires-clause-sound : goal.read_run-requires-clause-sound
-read_run-requires-clause-sound g c = c.page_block.ensures.sound
 
 pub read_run-requires-clause-place : goal.read_run-requires-clause-place
 read_run-requires-clause-place g c =
@@ -62,18 +50,6 @@ read_run-requires-clause-name g c =
     let has = has_slot shape x c.args.dir.0 c.args.slot _ c.requires.can c.requires.inode.size c.requires.slot in
     can_page shape y c.args.dir.0 (c.args.slot / 64) c.in_ok-b.b.0 call.can (page_on x y c.args.dir.0 (c.args.slot / 64) call.looks.looks.words has) (block_on x y c.args.dir.0 (c.args.slot / 64) c.in_ok-b.b.0 call.looks.looks.words call.value)
 
-pub returns-in_err-b-clause-looks : goal.returns-in_err-b-clause-looks
-returns-in_err-b-clause-looks g c = c.page_block.ensures.looks
-
-pub returns-in_err-b-clause-can : goal.returns-in_err-b-clause-can
-returns-in_err-b-clause-can g c = c.page_block.ensures.can
-
-pub returns-in_err-b-clause-passes : goal.returns-in_err-b-clause-passes
-returns-in_err-b-clause-passes g c = c.page_block.ensures.passes
-
-pub returns-in_err-b-clause-sound : goal.returns-in_err-b-clause-sound
-returns-in_err-b-clause-sound g c = c.page_block.ensures.sound
-
 pub returns-in_err-b-clause-ends : goal.returns-in_err-b-clause-ends
 returns-in_err-b-clause-ends g c =
     let p = err_from_is_err_and c.from_residual.result c.from_residual.ensures.1 in
@@ -82,9 +58,6 @@ returns-in_err-b-clause-ends g c =
 pub returns-in_err-read_run-clause-passes : goal.returns-in_err-read_run-clause-passes
 returns-in_err-read_run-clause-passes g c = g.met.V.Blocks.passes_trans _ _ _ c.page_block.ensures.passes c.read_run.ensures.passes
 
-pub returns-in_err-read_run-clause-sound : goal.returns-in_err-read_run-clause-sound
-returns-in_err-read_run-clause-sound g c = c.read_run.ensures.sound
-
 pub returns-in_err-read_run-clause-ends : goal.returns-in_err-read_run-clause-ends
 returns-in_err-read_run-clause-ends g c =
     let p = err_from_is_err_and c.from_residual-in_err-read_run.result c.from_residual-in_err-read_run.ensures.1 in
@@ -92,9 +65,6 @@ returns-in_err-read_run-clause-ends g c =
 
 pub returns-clause-passes : goal.returns-clause-passes
 returns-clause-passes g c = g.met.V.Blocks.passes_trans _ _ _ c.page_block.ensures.passes c.read_run.ensures.passes
-
-pub returns-clause-sound : goal.returns-clause-sound
-returns-clause-sound g c = c.read_run.ensures.sound
 
 pub returns-clause-ends : goal.returns-clause-ends
 returns-clause-ends g c = ends_later _ _ _ _ c.in_ok-b.ensures.ends.later c.in_ok-b.ensures.ends.cause (ends_ok _ _ c.read_run.result _ _ c.in_ok-read_run.was c.read_run.ensures.ends)

@@ -4,36 +4,6 @@ use Rattle.directories.proofs.Common.{arith, refl}
 use Rattle.directories.proofs.CanRead.{can_look, has_page}
 use Rattle.directories.proofs.planning.last_block.Goals as goal
 
-pub page_block-requires-clause-sound : goal.page_block-requires-clause-sound
-page_block-requires-clause-sound g c = c.requires.sound
-
-pub page_block-requires-clause-can : goal.page_block-requires-clause-can
-page_block-requires-clause-can g c = c.requires.can
-
-pub page_block-requires-clause-inode : goal.page_block-requires-clause-inode
-page_block-requires-clause-inode g c = c.requires.inode
-
-pub returns-clause-looks : goal.returns-clause-looks
-returns-clause-looks g c = c.page_block.ensures.looks
-
-pub returns-clause-can : goal.returns-clause-can
-returns-clause-can g c = c.page_block.ensures.can
-
-pub returns-clause-passes : goal.returns-clause-passes
-returns-clause-passes g c = c.page_block.ensures.passes
-
-pub returns-clause-ends : goal.returns-clause-ends
-returns-clause-ends g c = c.page_block.ensures.ends
-
-pub returns-clause-sound : goal.returns-clause-sound
-returns-clause-sound g c = c.page_block.ensures.sound
-
-pub returns-then-inode-eq0-clause-can : goal.returns-then-inode-eq0-clause-can
-returns-then-inode-eq0-clause-can g c = c.requires.can
-
-pub returns-then-inode-eq0-clause-sound : goal.returns-then-inode-eq0-clause-sound
-returns-then-inode-eq0-clause-sound g c = c.requires.sound
-
 pub returns-then-inode-eq0-clause-passes : goal.returns-then-inode-eq0-clause-passes
 returns-then-inode-eq0-clause-passes g c = g.met.V.Blocks.passes_refl _
 

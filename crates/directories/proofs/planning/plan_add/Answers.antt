@@ -283,38 +283,11 @@ returns-clause-goes g c =
     let p2 = g.met.V.Volume.passes_keeps _ _ c.last_block.ensures.passes in
     (p1.goes then p2.goes) then c.plan_size.ensures.goes
 
-pub dir_inode-requires-clause-sound : goal.dir_inode-requires-clause-sound
-dir_inode-requires-clause-sound g c = c.requires.sound
-
-pub last_block-requires-clause-sound : goal.last_block-requires-clause-sound
-last_block-requires-clause-sound g c = c.dir_inode.ensures.sound
-
-pub plan_size-requires-clause-sound : goal.plan_size-requires-clause-sound
-plan_size-requires-clause-sound g c = c.last_block.ensures.sound
-
-pub last_block-requires-clause-can : goal.last_block-requires-clause-can
-last_block-requires-clause-can g c = c.in_ok-inode.ensures.can
-
 pub dir_inode-requires-clause-can : goal.dir_inode-requires-clause-can
 dir_inode-requires-clause-can g c = can_read _ _ _ c.requires.ready.order.has_shape c.requires.ready.order.mapped c.requires.ready.order.named c.requires.entries c.requires.dir
 
 pub last_block-requires-clause-inode : goal.last_block-requires-clause-inode
 last_block-requires-clause-inode g c = subst (λ (f : BlockWords). IsInode f c.args.dir.0 c.in_ok-inode.inode) (sym c.in_ok-inode.ensures.looks.looks.words) c.in_ok-inode.ensures.value
-
-pub returns-in_err-inode-clause-sound : goal.returns-in_err-inode-clause-sound
-returns-in_err-inode-clause-sound g c = c.dir_inode.ensures.sound
-
-pub returns-in_err-last-clause-sound : goal.returns-in_err-last-clause-sound
-returns-in_err-last-clause-sound g c = c.last_block.ensures.sound
-
-pub returns-in_err-change-clause-sound : goal.returns-in_err-change-clause-sound
-returns-in_err-change-clause-sound g c = c.plan_size.ensures.sound
-
-pub returns-in_err-with_entries-clause-sound : goal.returns-in_err-with_entries-clause-sound
-returns-in_err-with_entries-clause-sound g c = c.plan_size.ensures.sound
-
-pub returns-clause-sound : goal.returns-clause-sound
-returns-clause-sound g c = c.plan_size.ensures.sound
 
 pub returns-in_err-inode-clause-ends : goal.returns-in_err-inode-clause-ends
 returns-in_err-inode-clause-ends g c =
@@ -387,9 +360,6 @@ plan_size-requires-clause-inode g c =
     let is = subst (λ (f : BlockWords). IsInode f d c.in_ok-inode.inode) (sym (c.in_ok-last.ensures.looks.looks.words ∙ c.in_ok-inode.ensures.looks.looks.words)) c.in_ok-inode.ensures.value in
     plans_dir_inode c.args.shape.now (g.V.Blocks.seen c.last_block.new.v) d c.in_ok-inode.inode c.in_ok-last.ensures.can is
 
-pub plan_size-requires-clause-ino : goal.plan_size-requires-clause-ino
-plan_size-requires-clause-ino g c = c.in_ok-inode.ensures.can.ino
-
 pub returns-in_err-inode-clause-ok : goal.returns-in_err-inode-clause-ok
 returns-in_err-inode-clause-ok g c = if_err c.from_residual.result _ c.from_residual.ensures.0
 
@@ -434,9 +404,6 @@ with_entries-requires-clause-within g c = one_within _ c.first_word.ensures.with
 
 pub with_entries-requires-clause-few : goal.with_entries-requires-clause-few
 with_entries-requires-clause-few g c = omega arith
-
-pub entry_words-requires : goal.entry_words-requires
-entry_words-requires g c = c.requires.is_name.few
 
 pub overflow_add-inode : goal.overflow_add-inode
 overflow_add-inode g c =

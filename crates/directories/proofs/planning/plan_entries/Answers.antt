@@ -9,57 +9,6 @@ pub returns-clause-ok : goal.returns-clause-ok
 returns-clause-ok g c = entries_planned c.args.shape.now (g.V.Blocks.seen c.args.v.now) (g.V.Volume.kept c.args.v.now) (g.V.Blocks.seen c.plan_smaller.new.v) (g.V.Volume.kept c.plan_smaller.new.v) c.args.dir c.args.len c.args.inode.now c.in_ok-change.change c.args.entries.now _ c.requires.can c.requires.ready c.in_ok-change.ensures.leaves c.requires.inode c.requires.less c.requires.few c.in_ok-change.ensures.ok
     (record { dir = c.in_ok-with_entries.ensures.dir; inode = c.in_ok-with_entries.ensures.inode; edits = c.in_ok-with_entries.ensures.edits; taken = c.in_ok-with_entries.ensures.taken; freed = c.in_ok-with_entries.ensures.freed })
 
-pub plan_smaller-requires-clause-sound : goal.plan_smaller-requires-clause-sound
-plan_smaller-requires-clause-sound g c = c.requires.sound
-
-pub plan_smaller-requires-clause-ready : goal.plan_smaller-requires-clause-ready
-plan_smaller-requires-clause-ready g c = c.requires.ready
-
-pub plan_smaller-requires-clause-can : goal.plan_smaller-requires-clause-can
-plan_smaller-requires-clause-can g c = c.requires.can
-
-pub plan_smaller-requires-clause-inode : goal.plan_smaller-requires-clause-inode
-plan_smaller-requires-clause-inode g c = c.requires.inode
-
-pub plan_smaller-requires-clause-less : goal.plan_smaller-requires-clause-less
-plan_smaller-requires-clause-less g c = c.requires.less
-
-pub returns-in_err-change-clause-goes : goal.returns-in_err-change-clause-goes
-returns-in_err-change-clause-goes g c = c.plan_smaller.ensures.goes
-
-pub returns-in_err-change-clause-sound : goal.returns-in_err-change-clause-sound
-returns-in_err-change-clause-sound g c = c.plan_smaller.ensures.sound
-
-pub returns-in_err-change-clause-leaves : goal.returns-in_err-change-clause-leaves
-returns-in_err-change-clause-leaves g c = c.plan_smaller.ensures.leaves
-
-pub returns-clause-goes : goal.returns-clause-goes
-returns-clause-goes g c = c.plan_smaller.ensures.goes
-
-pub returns-clause-sound : goal.returns-clause-sound
-returns-clause-sound g c = c.plan_smaller.ensures.sound
-
-pub returns-clause-leaves : goal.returns-clause-leaves
-returns-clause-leaves g c = c.plan_smaller.ensures.leaves
-
-pub plan_smaller-requires-clause-whole : goal.plan_smaller-requires-clause-whole
-plan_smaller-requires-clause-whole g c = c.requires.whole
-
-pub returns-in_err-with_entries-clause-goes : goal.returns-in_err-with_entries-clause-goes
-returns-in_err-with_entries-clause-goes g c = c.plan_smaller.ensures.goes
-
-pub returns-in_err-with_entries-clause-sound : goal.returns-in_err-with_entries-clause-sound
-returns-in_err-with_entries-clause-sound g c = c.plan_smaller.ensures.sound
-
-pub returns-in_err-with_entries-clause-leaves : goal.returns-in_err-with_entries-clause-leaves
-returns-in_err-with_entries-clause-leaves g c = c.plan_smaller.ensures.leaves
-
-pub with_entries-requires-clause-within : goal.with_entries-requires-clause-within
-with_entries-requires-clause-within g c = c.requires.within
-
-pub with_entries-requires-clause-few : goal.with_entries-requires-clause-few
-with_entries-requires-clause-few g c = c.requires.few
-
 pub returns-in_err-change-clause-ends : goal.returns-in_err-change-clause-ends
 returns-in_err-change-clause-ends g c =
     let p = err_from_is_err_and c.from_residual.result c.from_residual.ensures.1 in

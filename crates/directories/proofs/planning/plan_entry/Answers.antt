@@ -47,35 +47,8 @@ returns-in_err-stored-clause-ends g c =
     let p = err_from_is_err_and c.from_residual.result c.from_residual.ensures.1 in
     ends_vol_read _ _ c.words_for_slot.result c.from_residual.result _ _ c.in_err-stored.was p.1 p.2 c.words_for_slot.ensures.ends
 
-pub words_for_slot-requires-clause-sound : goal.words_for_slot-requires-clause-sound
-words_for_slot-requires-clause-sound g c = c.requires.sound
-
-pub words_for_slot-requires-clause-can : goal.words_for_slot-requires-clause-can
-words_for_slot-requires-clause-can g c = c.requires.can
-
-pub words_for_slot-requires-clause-inode : goal.words_for_slot-requires-clause-inode
-words_for_slot-requires-clause-inode g c = c.requires.inode
-
-pub plan_entries-requires-clause-sound : goal.plan_entries-requires-clause-sound
-plan_entries-requires-clause-sound g c = c.words_for_slot.ensures.sound
-
-pub plan_entries-requires-clause-can : goal.plan_entries-requires-clause-can
-plan_entries-requires-clause-can g c = c.words_for_slot.ensures.can
-
 pub plan_entries-requires-clause-inode : goal.plan_entries-requires-clause-inode
 plan_entries-requires-clause-inode g c = subst (λ (f : BlockWords). IsInode f c.args.dir.0 c.args.inode.now) (sym c.words_for_slot.ensures.looks.looks.words) c.requires.inode
-
-pub plan_entries-requires-clause-less : goal.plan_entries-requires-clause-less
-plan_entries-requires-clause-less g c = c.requires.less
-
-pub plan_entries-requires-clause-whole : goal.plan_entries-requires-clause-whole
-plan_entries-requires-clause-whole g c = c.requires.whole
-
-pub returns-in_err-stored-clause-sound : goal.returns-in_err-stored-clause-sound
-returns-in_err-stored-clause-sound g c = c.words_for_slot.ensures.sound
-
-pub returns-clause-sound : goal.returns-clause-sound
-returns-clause-sound g c = c.plan_entries.ensures.sound
 
 pub returns-in_err-stored-clause-ok : goal.returns-in_err-stored-clause-ok
 returns-in_err-stored-clause-ok g c = if_err c.from_residual.result _ c.from_residual.ensures.0

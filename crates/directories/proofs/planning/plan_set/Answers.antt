@@ -52,20 +52,8 @@ returns-in_err-inode-clause-ends g c =
     let p = err_from_is_err_and c.from_residual.result c.from_residual.ensures.1 in
     ends_vol_read _ _ c.dir_inode.result c.from_residual.result _ _ c.in_err-inode.was p.1 p.2 c.dir_inode.ensures.ends
 
-pub dir_inode-requires-clause-sound : goal.dir_inode-requires-clause-sound
-dir_inode-requires-clause-sound g c = c.requires.sound
-
 pub dir_inode-requires-clause-can : goal.dir_inode-requires-clause-can
 dir_inode-requires-clause-can g c = can_read _ _ _ c.requires.ready.order.has_shape c.requires.ready.order.mapped c.requires.ready.order.named c.requires.entries c.requires.slot.dir
-
-pub returns-in_err-inode-clause-sound : goal.returns-in_err-inode-clause-sound
-returns-in_err-inode-clause-sound g c = c.dir_inode.ensures.sound
-
-pub plan_entry-requires-clause-sound : goal.plan_entry-requires-clause-sound
-plan_entry-requires-clause-sound g c = c.dir_inode.ensures.sound
-
-pub plan_entry-requires-clause-can : goal.plan_entry-requires-clause-can
-plan_entry-requires-clause-can g c = c.dir_inode.ensures.can
 
 pub plan_entry-requires-clause-inode : goal.plan_entry-requires-clause-inode
 plan_entry-requires-clause-inode g c = subst (λ (f : BlockWords). IsInode f c.args.dir.0 c.in_ok-inode.inode) (sym c.in_ok-inode.ensures.looks.looks.words) c.in_ok-inode.ensures.value
@@ -73,14 +61,8 @@ plan_entry-requires-clause-inode g c = subst (λ (f : BlockWords). IsInode f c.a
 pub plan_entry-requires-clause-less : goal.plan_entry-requires-clause-less
 plan_entry-requires-clause-less g c = le_refl _
 
-pub returns-clause-sound : goal.returns-clause-sound
-returns-clause-sound g c = c.plan_entry.ensures.sound
-
 pub returns-in_err-inode-clause-ok : goal.returns-in_err-inode-clause-ok
 returns-in_err-inode-clause-ok g c = if_err c.from_residual.result _ c.from_residual.ensures.0
-
-pub entry_words-words-requires : goal.entry_words-words-requires
-entry_words-words-requires g c = c.requires.is_name.few
 
 pub plan_entry-requires-clause-slot : goal.plan_entry-requires-clause-slot
 plan_entry-requires-clause-slot g c = (has_room _ _ _ _ _ _ c.requires.ready c.requires.entries c.requires.slot c.in_ok-inode.ensures.value).within

@@ -10,15 +10,6 @@ plan_size-requires-clause-inode g c = plans_dir_inode c.args.shape.now (g.V.Bloc
 pub plan_size-requires-clause-fits : goal.plan_size-requires-clause-fits
 plan_size-requires-clause-fits g c = λ most. dir_fits c.args.shape.now (g.V.Blocks.seen c.args.v.now) c.args.dir.0 c.args.len c.args.inode.now c.requires.can c.requires.inode c.requires.whole most
 
-pub plan_size-requires-clause-sound : goal.plan_size-requires-clause-sound
-plan_size-requires-clause-sound g c = c.requires.sound
-
-pub plan_size-requires-clause-ready : goal.plan_size-requires-clause-ready
-plan_size-requires-clause-ready g c = c.requires.ready
-
-pub plan_size-requires-clause-ino : goal.plan_size-requires-clause-ino
-plan_size-requires-clause-ino g c = c.requires.can.ino
-
 pub plan_size-requires-clause-skip : goal.plan_size-requires-clause-skip
 plan_size-requires-clause-skip g c = none_skipped _ _ (c.from-skip.ensures ∙ c.new.ensures.items)
 
@@ -30,59 +21,14 @@ returns-in-Ok-clause-ok g c =
     let none = ap numbers (c.from-skip.ensures ∙ c.new.ensures.items) in
     subst (λ skip. PlansSize c.args.shape.now (g.V.Blocks.seen c.args.v.now).words (g.V.Blocks.seen c.plan_size.new.v) (g.V.Volume.kept c.plan_size.new.v) c.args.dir.0 c.args.inode.now c.args.len skip c.in-Ok.change) none c.in-Ok.ensures.ok
 
-pub returns-in-Ok-clause-leaves : goal.returns-in-Ok-clause-leaves
-returns-in-Ok-clause-leaves g c = c.plan_size.ensures.leaves
-
-pub returns-in-Ok-clause-goes : goal.returns-in-Ok-clause-goes
-returns-in-Ok-clause-goes g c = c.plan_size.ensures.goes
-
-pub returns-in-Ok-clause-sound : goal.returns-in-Ok-clause-sound
-returns-in-Ok-clause-sound g c = c.plan_size.ensures.sound
-
 pub returns-in-Ok-clause-ends : goal.returns-in-Ok-clause-ends
 returns-in-Ok-clause-ends g c = ends_sized _ _ _ _ c.in-Ok.ensures.ends
-
-pub returns-in-Err-Fault-clause-leaves : goal.returns-in-Err-Fault-clause-leaves
-returns-in-Err-Fault-clause-leaves g c = c.plan_size.ensures.leaves
-
-pub returns-in-Err-Fault-clause-goes : goal.returns-in-Err-Fault-clause-goes
-returns-in-Err-Fault-clause-goes g c = c.plan_size.ensures.goes
-
-pub returns-in-Err-Fault-clause-sound : goal.returns-in-Err-Fault-clause-sound
-returns-in-Err-Fault-clause-sound g c = c.plan_size.ensures.sound
-
-pub returns-in-Err-Fault-clause-ok : goal.returns-in-Err-Fault-clause-ok
-returns-in-Err-Fault-clause-ok g c = tt
 
 pub returns-in-Err-Fault-clause-ends : goal.returns-in-Err-Fault-clause-ends
 returns-in-Err-Fault-clause-ends g c = ends_unsized _ _ _ Fault c.in-Err-Fault.field-0-is c.in-Err-Fault.ensures.ends
 
-pub returns-in-Err-Stopped-clause-leaves : goal.returns-in-Err-Stopped-clause-leaves
-returns-in-Err-Stopped-clause-leaves g c = c.plan_size.ensures.leaves
-
-pub returns-in-Err-Stopped-clause-goes : goal.returns-in-Err-Stopped-clause-goes
-returns-in-Err-Stopped-clause-goes g c = c.plan_size.ensures.goes
-
-pub returns-in-Err-Stopped-clause-sound : goal.returns-in-Err-Stopped-clause-sound
-returns-in-Err-Stopped-clause-sound g c = c.plan_size.ensures.sound
-
-pub returns-in-Err-Stopped-clause-ok : goal.returns-in-Err-Stopped-clause-ok
-returns-in-Err-Stopped-clause-ok g c = tt
-
 pub returns-in-Err-Stopped-clause-ends : goal.returns-in-Err-Stopped-clause-ends
 returns-in-Err-Stopped-clause-ends g c = ends_unsized _ _ _ Stopped c.in-Err-Stopped.field-0-is c.in-Err-Stopped.ensures.ends
-
-pub returns-in-Err-Memory-clause-leaves : goal.returns-in-Err-Memory-clause-leaves
-returns-in-Err-Memory-clause-leaves g c = c.plan_size.ensures.leaves
-
-pub returns-in-Err-Memory-clause-goes : goal.returns-in-Err-Memory-clause-goes
-returns-in-Err-Memory-clause-goes g c = c.plan_size.ensures.goes
-
-pub returns-in-Err-Memory-clause-sound : goal.returns-in-Err-Memory-clause-sound
-returns-in-Err-Memory-clause-sound g c = c.plan_size.ensures.sound
-
-pub returns-in-Err-Memory-clause-ok : goal.returns-in-Err-Memory-clause-ok
-returns-in-Err-Memory-clause-ok g c = tt
 
 pub returns-in-Err-Memory-clause-ends : goal.returns-in-Err-Memory-clause-ends
 returns-in-Err-Memory-clause-ends g c = ends_unsized _ _ _ Memory c.in-Err-Memory.field-0-is c.in-Err-Memory.ensures.ends

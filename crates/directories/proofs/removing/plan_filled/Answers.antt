@@ -71,36 +71,6 @@ returns-in_err-moved-clause-ends g c =
     let p = err_from_is_err_and c.from_residual-in_err-moved.result c.from_residual-in_err-moved.ensures.1 in
     ends_by_after _ _ _ _ _ c.words_for_slot.ensures.ends.later c.in_ok-stored.ensures.ends.cause (ends_vol_read _ _ c.moved_words.result c.from_residual-in_err-moved.result _ _ c.in_err-moved.was p.1 p.2 c.moved_words.ensures.ends)
 
-pub returns-in_err-stored-clause-sound : goal.returns-in_err-stored-clause-sound
-returns-in_err-stored-clause-sound g c = c.words_for_slot.ensures.sound
-
-pub returns-in_err-moved-clause-sound : goal.returns-in_err-moved-clause-sound
-returns-in_err-moved-clause-sound g c = c.moved_words.ensures.sound
-
-pub returns-clause-sound : goal.returns-clause-sound
-returns-clause-sound g c = c.plan_entries.ensures.sound
-
-pub words_for_slot-requires-clause-sound : goal.words_for_slot-requires-clause-sound
-words_for_slot-requires-clause-sound g c = c.requires.sound
-
-pub words_for_slot-requires-clause-can : goal.words_for_slot-requires-clause-can
-words_for_slot-requires-clause-can g c = c.requires.can
-
-pub words_for_slot-requires-clause-inode : goal.words_for_slot-requires-clause-inode
-words_for_slot-requires-clause-inode g c = c.requires.inode
-
-pub moved_words-requires-clause-sound : goal.moved_words-requires-clause-sound
-moved_words-requires-clause-sound g c = c.words_for_slot.ensures.sound
-
-pub moved_words-requires-clause-can : goal.moved_words-requires-clause-can
-moved_words-requires-clause-can g c = c.words_for_slot.ensures.can
-
-pub plan_entries-requires-clause-sound : goal.plan_entries-requires-clause-sound
-plan_entries-requires-clause-sound g c = c.moved_words.ensures.sound
-
-pub plan_entries-requires-clause-can : goal.plan_entries-requires-clause-can
-plan_entries-requires-clause-can g c = c.moved_words.ensures.can
-
 pub moved_words-requires-clause-inode : goal.moved_words-requires-clause-inode
 moved_words-requires-clause-inode g c = subst (λ (f : BlockWords). IsInode f c.args.dir.0 c.args.inode.now) (sym c.words_for_slot.ensures.looks.looks.words) c.requires.inode
 

@@ -146,59 +146,17 @@ returns-in_err-own-clause-ends g c =
     let p = err_from_is_err_and c.from_residual-in_err-own.result c.from_residual-in_err-own.ensures.1 in
     ends_by_after _ _ _ _ _ c.dir_inode.ensures.ends.later c.in_ok-inode.ensures.ends.cause (ends_vol_read _ _ c.read_entry.result c.from_residual-in_err-own.result _ _ c.in_err-own.was p.1 p.2 c.read_entry.ensures.ends)
 
-pub returns-in_err-inode-clause-sound : goal.returns-in_err-inode-clause-sound
-returns-in_err-inode-clause-sound g c = c.dir_inode.ensures.sound
-
-pub returns-in_err-own-clause-sound : goal.returns-in_err-own-clause-sound
-returns-in_err-own-clause-sound g c = c.read_entry.ensures.sound
-
-pub returns-then-slot-last-clause-sound : goal.returns-then-slot-last-clause-sound
-returns-then-slot-last-clause-sound g c = c.plan_entry.ensures.sound
-
-pub returns-then-gone-last-clause-sound : goal.returns-then-gone-last-clause-sound
-returns-then-gone-last-clause-sound g c = c.plan_entry-then-gone-last.ensures.sound
-
-pub returns-clause-sound : goal.returns-clause-sound
-returns-clause-sound g c = c.plan_filled.ensures.sound
-
-pub dir_inode-requires-clause-sound : goal.dir_inode-requires-clause-sound
-dir_inode-requires-clause-sound g c = c.requires.sound
-
-pub read_entry-requires-clause-sound : goal.read_entry-requires-clause-sound
-read_entry-requires-clause-sound g c = c.dir_inode.ensures.sound
-
-pub plan_entry-requires-clause-sound : goal.plan_entry-requires-clause-sound
-plan_entry-requires-clause-sound g c = c.read_entry.ensures.sound
-
-pub plan_entry-requires-then-gone-last-clause-sound : goal.plan_entry-requires-then-gone-last-clause-sound
-plan_entry-requires-then-gone-last-clause-sound g c = c.read_entry.ensures.sound
-
-pub plan_filled-requires-clause-sound : goal.plan_filled-requires-clause-sound
-plan_filled-requires-clause-sound g c = c.read_entry.ensures.sound
-
 pub dir_inode-requires-clause-can : goal.dir_inode-requires-clause-can
 dir_inode-requires-clause-can g c = can_read _ _ _ c.requires.ready.order.has_shape c.requires.ready.order.mapped c.requires.ready.order.named c.requires.entries c.requires.slot.dir
-
-pub read_entry-requires-clause-can : goal.read_entry-requires-clause-can
-read_entry-requires-clause-can g c = c.in_ok-inode.ensures.can
 
 pub read_entry-requires-clause-inode : goal.read_entry-requires-clause-inode
 read_entry-requires-clause-inode g c = subst (λ (f : BlockWords). IsInode f c.args.dir.0 c.in_ok-inode.inode) (sym c.in_ok-inode.ensures.looks.looks.words) c.in_ok-inode.ensures.value
 
-pub plan_entry-requires-clause-can : goal.plan_entry-requires-clause-can
-plan_entry-requires-clause-can g c = c.read_entry.ensures.can
-
 pub plan_entry-requires-clause-inode : goal.plan_entry-requires-clause-inode
 plan_entry-requires-clause-inode g c = subst (λ (f : BlockWords). IsInode f c.args.dir.0 c.in_ok-inode.inode) (sym (c.read_entry.ensures.looks.looks.words ∙ c.in_ok-inode.ensures.looks.looks.words)) c.in_ok-inode.ensures.value
 
-pub plan_entry-requires-then-gone-last-clause-can : goal.plan_entry-requires-then-gone-last-clause-can
-plan_entry-requires-then-gone-last-clause-can g c = c.read_entry.ensures.can
-
 pub plan_entry-requires-then-gone-last-clause-inode : goal.plan_entry-requires-then-gone-last-clause-inode
 plan_entry-requires-then-gone-last-clause-inode g c = subst (λ (f : BlockWords). IsInode f c.args.dir.0 c.in_ok-inode.inode) (sym (c.read_entry.ensures.looks.looks.words ∙ c.in_ok-inode.ensures.looks.looks.words)) c.in_ok-inode.ensures.value
-
-pub plan_filled-requires-clause-can : goal.plan_filled-requires-clause-can
-plan_filled-requires-clause-can g c = c.read_entry.ensures.can
 
 pub plan_filled-requires-clause-inode : goal.plan_filled-requires-clause-inode
 plan_filled-requires-clause-inode g c = subst (λ (f : BlockWords). IsInode f c.args.dir.0 c.in_ok-inode.inode) (sym (c.read_entry.ensures.looks.looks.words ∙ c.in_ok-inode.ensures.looks.looks.words)) c.in_ok-inode.ensures.value

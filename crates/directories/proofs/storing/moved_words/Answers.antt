@@ -26,48 +26,6 @@ returns-clause-passes g c = g.met.V.Blocks.passes_trans _ _ _ c.in_ok-words.ensu
 pub returns-clause-ends : goal.returns-clause-ends
 returns-clause-ends g c = ends_later _ _ _ c.words_for_slot.result c.in_ok-words.ensures.ends.later c.in_ok-words.ensures.ends.cause c.words_for_slot.ensures.ends
 
-pub read_entry-requires-clause-sound : goal.read_entry-requires-clause-sound
-read_entry-requires-clause-sound g c = c.requires.sound
-
-pub read_entry-requires-clause-can : goal.read_entry-requires-clause-can
-read_entry-requires-clause-can g c = c.requires.can
-
-pub read_entry-requires-clause-inode : goal.read_entry-requires-clause-inode
-read_entry-requires-clause-inode g c = c.requires.inode
-
-pub words_for_slot-requires-clause-sound : goal.words_for_slot-requires-clause-sound
-words_for_slot-requires-clause-sound g c = c.read_entry.ensures.sound
-
-pub returns-in_err-words-clause-sound : goal.returns-in_err-words-clause-sound
-returns-in_err-words-clause-sound g c = c.read_entry.ensures.sound
-
-pub returns-in_err-words-clause-looks : goal.returns-in_err-words-clause-looks
-returns-in_err-words-clause-looks g c = c.read_entry.ensures.looks
-
-pub returns-in_err-words-clause-passes : goal.returns-in_err-words-clause-passes
-returns-in_err-words-clause-passes g c = c.read_entry.ensures.passes
-
-pub returns-clause-sound : goal.returns-clause-sound
-returns-clause-sound g c = c.words_for_slot.ensures.sound
-
-pub returns-clause-can : goal.returns-clause-can
-returns-clause-can g c = c.words_for_slot.ensures.can
-
-pub read_entry-requires-clause-slot : goal.read_entry-requires-clause-slot
-read_entry-requires-clause-slot g c = c.requires.from
-
-pub words_for_slot-requires-clause-can : goal.words_for_slot-requires-clause-can
-words_for_slot-requires-clause-can g c = c.read_entry.ensures.can
-
-pub words_for_slot-requires-clause-slot : goal.words_for_slot-requires-clause-slot
-words_for_slot-requires-clause-slot g c = c.requires.to
-
-pub returns-in_err-words-clause-can : goal.returns-in_err-words-clause-can
-returns-in_err-words-clause-can g c = c.read_entry.ensures.can
-
-pub returns-clause-within : goal.returns-clause-within
-returns-clause-within g c = c.words_for_slot.ensures.within
-
 pub returns-in_err-words-clause-into : goal.returns-in_err-words-clause-into
 returns-in_err-words-clause-into g c = if_err c.from_residual.result _ c.from_residual.ensures.0
 

@@ -16,39 +16,3 @@ returns-clause-into g c = record { page = has_slot c.args.shape.now (g.V.Blocks.
 
 pub returns-clause-ends : goal.returns-clause-ends
 returns-clause-ends g c = ends_ok _ _ c.page_block.result _ _ c.in_ok-block.was c.page_block.ensures.ends
-
-pub page_block-requires-clause-sound : goal.page_block-requires-clause-sound
-page_block-requires-clause-sound g c = c.requires.sound
-
-pub page_block-requires-clause-can : goal.page_block-requires-clause-can
-page_block-requires-clause-can g c = c.requires.can
-
-pub page_block-requires-clause-inode : goal.page_block-requires-clause-inode
-page_block-requires-clause-inode g c = c.requires.inode
-
-pub returns-in_err-block-clause-looks : goal.returns-in_err-block-clause-looks
-returns-in_err-block-clause-looks g c = c.page_block.ensures.looks
-
-pub returns-in_err-block-clause-can : goal.returns-in_err-block-clause-can
-returns-in_err-block-clause-can g c = c.page_block.ensures.can
-
-pub returns-in_err-block-clause-passes : goal.returns-in_err-block-clause-passes
-returns-in_err-block-clause-passes g c = c.page_block.ensures.passes
-
-pub returns-in_err-block-clause-sound : goal.returns-in_err-block-clause-sound
-returns-in_err-block-clause-sound g c = c.page_block.ensures.sound
-
-pub returns-clause-looks : goal.returns-clause-looks
-returns-clause-looks g c = c.page_block.ensures.looks
-
-pub returns-clause-can : goal.returns-clause-can
-returns-clause-can g c = c.page_block.ensures.can
-
-pub returns-clause-passes : goal.returns-clause-passes
-returns-clause-passes g c = c.page_block.ensures.passes
-
-pub returns-clause-sound : goal.returns-clause-sound
-returns-clause-sound g c = c.page_block.ensures.sound
-
-pub returns-clause-within : goal.returns-clause-within
-returns-clause-within g c = c.first_word.ensures.within

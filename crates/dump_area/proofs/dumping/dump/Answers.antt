@@ -13,12 +13,6 @@ use Rattle.dump_area.proofs.dumping.dump.Goals as goal
 pub returns-in_err-shut-clause-never_mixed : goal.returns-in_err-shut-clause-never_mixed
 returns-in_err-shut-clause-never_mixed g c = mixed_keeps c.args.words.now (g.D.DumpBlocks.contents c.args.d.now).blocks (g.D.DumpBlocks.contents c.shut.new.d) c.shut.ensures.held
 
-pub returns-in_err-shut-clause-room : goal.returns-in_err-shut-clause-room
-returns-in_err-shut-clause-room g c = c.shut.ensures.room
-
-pub returns-in_err-shut-clause-disk : goal.returns-in_err-shut-clause-disk
-returns-in_err-shut-clause-disk g c = c.shut.ensures.disk
-
 pub returns-in_err-shut-clause-settled : goal.returns-in_err-shut-clause-settled
 returns-in_err-shut-clause-settled g c =
     let p = err_from_is_err_and c.from_residual.result c.from_residual.ensures.1 in
@@ -41,9 +35,6 @@ returns-in_err-shut-clause-goes g c =
 
 -- ---- the pages are not written
 
-pub put_pages-requires-clause-image : goal.put_pages-requires-clause-image
-put_pages-requires-clause-image g c = c.requires.image
-
 pub put_pages-requires-clause-blocks : goal.put_pages-requires-clause-blocks
 put_pages-requires-clause-blocks g c = omega (arith, c.requires.blocks, c.shut.ensures.disk.count)
 
@@ -52,9 +43,6 @@ put_pages-requires-clause-shut g c = record { settled = c.in_ok-shut.ensures.set
 
 pub returns-in_err-put_pages-clause-never_mixed : goal.returns-in_err-put_pages-clause-never_mixed
 returns-in_err-put_pages-clause-never_mixed g c = mixed_none c.args.words.now (g.D.DumpBlocks.contents c.args.d.now).blocks (g.D.DumpBlocks.contents c.put_pages.new.d) c.put_pages.ensures.none
-
-pub returns-in_err-put_pages-clause-room : goal.returns-in_err-put_pages-clause-room
-returns-in_err-put_pages-clause-room g c = c.shut.ensures.room
 
 pub returns-in_err-put_pages-clause-disk : goal.returns-in_err-put_pages-clause-disk
 returns-in_err-put_pages-clause-disk g c = same_then _ _ _ c.shut.ensures.disk c.put_pages.ensures.disk
@@ -81,26 +69,11 @@ returns-in_err-put_pages-clause-goes g c =
 
 -- ---- block 0 is not opened
 
-pub open-requires-clause-image : goal.open-requires-clause-image
-open-requires-clause-image g c = c.requires.image
-
-pub open-requires-clause-room : goal.open-requires-clause-room
-open-requires-clause-room g c = c.shut.ensures.room
-
 pub open-requires-clause-blocks : goal.open-requires-clause-blocks
 open-requires-clause-blocks g c = omega (arith, c.requires.blocks, c.shut.ensures.disk.count, c.put_pages.ensures.disk.count)
 
-pub open-requires-clause-settled : goal.open-requires-clause-settled
-open-requires-clause-settled g c = c.in_ok-put_pages.ensures.settled
-
-pub open-requires-clause-words : goal.open-requires-clause-words
-open-requires-clause-words g c = c.in_ok-put_pages.ensures.words
-
 pub returns-in_err-open-clause-never_mixed : goal.returns-in_err-open-clause-never_mixed
 returns-in_err-open-clause-never_mixed g c = mixed_only c.args.words.now (g.D.DumpBlocks.contents c.args.d.now).blocks (g.D.DumpBlocks.contents c.open.new.d) c.open.ensures.only
-
-pub returns-in_err-open-clause-room : goal.returns-in_err-open-clause-room
-returns-in_err-open-clause-room g c = c.open.ensures.room
 
 pub returns-in_err-open-clause-disk : goal.returns-in_err-open-clause-disk
 returns-in_err-open-clause-disk g c = same_then _ _ _ c.shut.ensures.disk (same_then _ _ _ c.put_pages.ensures.disk c.open.ensures.disk)
@@ -131,20 +104,8 @@ returns-in_err-open-clause-goes g c =
 pub returns-clause-never_mixed : goal.returns-clause-never_mixed
 returns-clause-never_mixed g c = mixed_only c.args.words.now (g.D.DumpBlocks.contents c.args.d.now).blocks (g.D.DumpBlocks.contents c.open.new.d) c.open.ensures.only
 
-pub returns-clause-room : goal.returns-clause-room
-returns-clause-room g c = c.open.ensures.room
-
 pub returns-clause-disk : goal.returns-clause-disk
 returns-clause-disk g c = same_then _ _ _ c.shut.ensures.disk (same_then _ _ _ c.put_pages.ensures.disk c.open.ensures.disk)
-
-pub returns-clause-settled : goal.returns-clause-settled
-returns-clause-settled g c = c.in_ok-open.ensures.settled
-
-pub returns-clause-held : goal.returns-clause-held
-returns-clause-held g c = c.in_ok-open.ensures.held
-
-pub returns-clause-zeros : goal.returns-clause-zeros
-returns-clause-zeros g c = c.in_ok-open.ensures.zeros
 
 pub returns-clause-goes : goal.returns-clause-goes
 returns-clause-goes g c =

@@ -66,36 +66,6 @@ returns-in-Ok-clause-cleared g c = run_zeros (g.V.Blocks.seen c.word.new.self).w
 pub returns-in_err-word-clause-goes : goal.returns-in_err-word-clause-goes
 returns-in_err-word-clause-goes g c = (g.met.V.Volume.passes_keeps _ _ c.word.ensures.passes).goes
 
-pub returns-in_err-word-clause-sound : goal.returns-in_err-word-clause-sound
-returns-in_err-word-clause-sound g c = c.word.ensures.sound
-
-pub returns-in-Ok-clause-sound : goal.returns-in-Ok-clause-sound
-returns-in-Ok-clause-sound g c = c.store_run.ensures.sound
-
-pub returns-in-Err-Fault-clause-cleared : goal.returns-in-Err-Fault-clause-cleared
-returns-in-Err-Fault-clause-cleared g c = tt
-
-pub returns-in-Err-Fault-clause-named : goal.returns-in-Err-Fault-clause-named
-returns-in-Err-Fault-clause-named g c = tt
-
-pub returns-in-Err-Fault-clause-sound : goal.returns-in-Err-Fault-clause-sound
-returns-in-Err-Fault-clause-sound g c = c.store_run.ensures.sound
-
-pub returns-in-Err-Stopped-clause-cleared : goal.returns-in-Err-Stopped-clause-cleared
-returns-in-Err-Stopped-clause-cleared g c = tt
-
-pub returns-in-Err-Stopped-clause-named : goal.returns-in-Err-Stopped-clause-named
-returns-in-Err-Stopped-clause-named g c = tt
-
-pub returns-in-Err-Stopped-clause-sound : goal.returns-in-Err-Stopped-clause-sound
-returns-in-Err-Stopped-clause-sound g c = c.store_run.ensures.sound
-
-pub word-requires-clause-sound : goal.word-requires-clause-sound
-word-requires-clause-sound g c = c.requires.sound
-
-pub store_run-requires-clause-sound : goal.store_run-requires-clause-sound
-store_run-requires-clause-sound g c = c.word.ensures.sound
-
 pub returns-in_err-word-clause-front : goal.returns-in_err-word-clause-front
 returns-in_err-word-clause-front g c = record { others = λ b w away. ap (λ f. f b w) c.word.ensures.looks.words; front = λ y less. ap (λ f. block_byte f c.args.b.0 y) c.word.ensures.looks.words }
 

@@ -1,7 +1,7 @@
 use Rattle.rio_base.proofs.BlockRules.{ends_later}
 use Rattle.node_pages.proofs.LookingUpRules.{can_look_up}
 use Rattle.node_pages.proofs.EndsOn.{ends_vol, if_err}
-use Rattle.file_pages.proofs.Common.{◌≡◌, ◌/◌, ◌%◌, true, subst, arith, ◌then◌, placed_at, volume_layout, NamedNode, BlockWords, ap, err_from_is_err_and, held, held_bytes, refl}
+use Rattle.file_pages.proofs.Common.{◌≡◌, ◌/◌, ◌%◌, true, subst, arith, ◌then◌, placed_at, volume_layout, NamedNode, BlockWords, ap, err_from_is_err_and, held, held_bytes}
 use Rattle.file_pages.specs.Storing.{KeepsFront, NamedAs, TailCleared, ZerosFrom}
 use Rattle.node_pages.proofs.OrderRules.{leaves_looked, ready_left}
 use Rattle.file_pages.proofs.Stored.{bytes_front, last_page, on_both, stores_after, stores_looked}
@@ -37,23 +37,8 @@ returns-clause-stores g c = stores_after c.args.shape.now _ _ _ _ _ _ _ _ _ _ c.
 pub returns-clause-goes : goal.returns-clause-goes
 returns-clause-goes g c = (g.met.V.Volume.passes_keeps _ _ c.block_of.ensures.passes).goes then c.clear_page.ensures.goes
 
-pub returns-in_err-b-clause-sound : goal.returns-in_err-b-clause-sound
-returns-in_err-b-clause-sound g c = c.block_of.ensures.sound
-
-pub returns-clause-sound : goal.returns-clause-sound
-returns-clause-sound g c = c.clear_page.ensures.sound
-
 pub returns-in_err-b-clause-goes : goal.returns-in_err-b-clause-goes
 returns-in_err-b-clause-goes g c = (g.met.V.Volume.passes_keeps _ _ c.block_of.ensures.passes).goes
-
-pub block_of-requires-clause-sound : goal.block_of-requires-clause-sound
-block_of-requires-clause-sound g c = c.requires.sound
-
-pub block_of-requires-clause-ino : goal.block_of-requires-clause-ino
-block_of-requires-clause-ino g c = c.requires.ino
-
-pub clear_page-requires-clause-sound : goal.clear_page-requires-clause-sound
-clear_page-requires-clause-sound g c = c.block_of.ensures.sound
 
 pub block_of-requires-clause-can : goal.block_of-requires-clause-can
 block_of-requires-clause-can g c = can_look_up c.args.shape.now _ c.requires.ready.order.has_shape c.requires.ready.order.mapped c.requires.ready.order.named
@@ -69,12 +54,6 @@ returns-in_err-b-clause-cleared g c = if_err c.from_residual.result _ c.from_res
 
 pub returns-in_err-b-clause-bytes : goal.returns-in_err-b-clause-bytes
 returns-in_err-b-clause-bytes g c = ap (λ (f : BlockWords). held_bytes (held f (placed_at (g.V.Blocks.seen c.args.v.now).words c.args.i.0))) c.block_of.ensures.looks.looks.words
-
-pub returns-then-at-eq0-clause-bytes : goal.returns-then-at-eq0-clause-bytes
-returns-then-at-eq0-clause-bytes g c = refl
-
-pub returns-then-at-eq0-clause-sound : goal.returns-then-at-eq0-clause-sound
-returns-then-at-eq0-clause-sound g c = c.requires.sound
 
 pub clear_page-requires-clause-place : goal.clear_page-requires-clause-place
 clear_page-requires-clause-place g c = omega arith

@@ -8,45 +8,6 @@ use Rattle.file_pages.proofs.SizeEnds.{size_halted, unrefused_stop}
 use Rattle.node_pages.proofs.EndsOn.{if_err}
 use Rattle.file_pages.proofs.committing.commit_change.Goals as goal
 
-pub open_change-requires-clause-sound : goal.open_change-requires-clause-sound
-open_change-requires-clause-sound g c = c.requires.sound
-
-pub open_change-requires-clause-shape : goal.open_change-requires-clause-shape
-open_change-requires-clause-shape g c = c.requires.shape
-
-pub open_change-requires-clause-idle : goal.open_change-requires-clause-idle
-open_change-requires-clause-idle g c = c.requires.idle
-
-pub open_change-requires-clause-ino : goal.open_change-requires-clause-ino
-open_change-requires-clause-ino g c = c.requires.ino
-
-pub open_change-requires-clause-can : goal.open_change-requires-clause-can
-open_change-requires-clause-can g c = c.requires.can
-
-pub apply-requires-clause-sound : goal.apply-requires-clause-sound
-apply-requires-clause-sound g c = c.open_change.ensures.sound
-
-pub apply-requires-clause-shape : goal.apply-requires-clause-shape
-apply-requires-clause-shape g c = c.open_change.ensures.shape
-
-pub apply-requires-clause-in_update : goal.apply-requires-clause-in_update
-apply-requires-clause-in_update g c = c.in_ok-open_change.ensures.ok.1
-
-pub apply-requires-clause-touched : goal.apply-requires-clause-touched
-apply-requires-clause-touched g c = c.in_ok-open_change.ensures.ok.0
-
-pub apply-requires-clause-ino : goal.apply-requires-clause-ino
-apply-requires-clause-ino g c = c.requires.ino
-
-pub apply-requires-clause-can : goal.apply-requires-clause-can
-apply-requires-clause-can g c = c.requires.can.makes
-
-pub commit-requires-clause-sound : goal.commit-requires-clause-sound
-commit-requires-clause-sound g c = c.apply.ensures.sound
-
-pub commit-requires-clause-in_update : goal.commit-requires-clause-in_update
-commit-requires-clause-in_update g c = c.apply.ensures.in_update
-
 pub returns-in_err-open_change-clause-leaves : goal.returns-in_err-open_change-clause-leaves
 returns-in_err-open_change-clause-leaves g c = λ f m h.
     let p = err_from_is_err_and c.from_residual.result c.from_residual.ensures.1 in
@@ -54,12 +15,6 @@ returns-in_err-open_change-clause-leaves g c = λ f m h.
 
 pub returns-in_err-open_change-clause-change : goal.returns-in_err-open_change-clause-change
 returns-in_err-open_change-clause-change g c = if_err c.from_residual.result _ c.from_residual.ensures.0
-
-pub returns-in_err-open_change-clause-goes : goal.returns-in_err-open_change-clause-goes
-returns-in_err-open_change-clause-goes g c = c.open_change.ensures.goes
-
-pub returns-in_err-open_change-clause-sound : goal.returns-in_err-open_change-clause-sound
-returns-in_err-open_change-clause-sound g c = c.open_change.ensures.sound
 
 pub returns-in_err-open_change-clause-other : goal.returns-in_err-open_change-clause-other
 returns-in_err-open_change-clause-other g c = let p = err_from_is_err_and c.from_residual.result c.from_residual.ensures.1 in unrefused_vol c.from_residual.result _ p.0 p.1 p.2
@@ -77,9 +32,6 @@ returns-in_err-apply-clause-change g c = if_err c.from_residual-in_err-apply.res
 
 pub returns-in_err-apply-clause-goes : goal.returns-in_err-apply-clause-goes
 returns-in_err-apply-clause-goes g c = c.open_change.ensures.goes then c.apply.ensures.goes
-
-pub returns-in_err-apply-clause-sound : goal.returns-in_err-apply-clause-sound
-returns-in_err-apply-clause-sound g c = c.apply.ensures.sound
 
 pub returns-in_err-apply-clause-other : goal.returns-in_err-apply-clause-other
 returns-in_err-apply-clause-other g c = let p = err_from_is_err_and c.from_residual-in_err-apply.result c.from_residual-in_err-apply.ensures.1 in unrefused_stop c.from_residual-in_err-apply.result p.0 p.1 p.2
@@ -100,9 +52,6 @@ returns-in_err-commit-clause-change g c = if_err c.from_residual-in_err-commit.r
 pub returns-in_err-commit-clause-goes : goal.returns-in_err-commit-clause-goes
 returns-in_err-commit-clause-goes g c = c.open_change.ensures.goes then c.apply.ensures.goes then c.commit.ensures.goes
 
-pub returns-in_err-commit-clause-sound : goal.returns-in_err-commit-clause-sound
-returns-in_err-commit-clause-sound g c = c.commit.ensures.sound
-
 pub returns-in_err-commit-clause-other : goal.returns-in_err-commit-clause-other
 returns-in_err-commit-clause-other g c = let p = err_from_is_err_and c.from_residual-in_err-commit.result c.from_residual-in_err-commit.ensures.1 in unrefused_stop c.from_residual-in_err-commit.result p.0 p.1 p.2
 
@@ -118,9 +67,6 @@ returns-clause-change g c = λ f m h. change_of c.args.shape.now f _ _ c.args.i.
 
 pub returns-clause-goes : goal.returns-clause-goes
 returns-clause-goes g c = c.open_change.ensures.goes then c.apply.ensures.goes then c.commit.ensures.goes
-
-pub returns-clause-sound : goal.returns-clause-sound
-returns-clause-sound g c = c.commit.ensures.sound
 
 pub returns-clause-other : goal.returns-clause-other
 returns-clause-other g c = unrefused_ok _

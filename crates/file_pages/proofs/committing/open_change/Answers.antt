@@ -9,20 +9,8 @@ use Rattle.file_pages.proofs.committing.open_change.Goals as goal
 pub returns-in_err-begin-clause-shape : goal.returns-in_err-begin-clause-shape
 returns-in_err-begin-clause-shape g c = shape_dropped _ _ _ c.requires.shape c.begin.ensures.looks.count c.begin.ensures.drops
 
-pub returns-in_err-begin-clause-standing : goal.returns-in_err-begin-clause-standing
-returns-in_err-begin-clause-standing g c = c.begin.ensures.standing
-
-pub returns-in_err-begin-clause-firm : goal.returns-in_err-begin-clause-firm
-returns-in_err-begin-clause-firm g c = c.begin.ensures.firm
-
-pub returns-in_err-begin-clause-goes : goal.returns-in_err-begin-clause-goes
-returns-in_err-begin-clause-goes g c = c.begin.ensures.goes
-
 pub returns-in_err-begin-clause-ends : goal.returns-in_err-begin-clause-ends
 returns-in_err-begin-clause-ends g c = let p = err_from_is_err_and c.from_residual.result c.from_residual.ensures.1 in ends_halted _ _ c.begin.result c.from_residual.result _ p.0 c.in_err-begin.was p.1 p.2 c.begin.ensures.ends
-
-pub returns-in_err-begin-clause-sound : goal.returns-in_err-begin-clause-sound
-returns-in_err-begin-clause-sound g c = c.begin.ensures.sound
 
 pub returns-in-Ok-clause-ok : goal.returns-in-Ok-clause-ok
 returns-in-Ok-clause-ok g c = (c.in-Ok.ensures.ok, c.touch_change.ensures.in_update, c.touch_change.ensures.looks.words ∙ c.begin.ensures.looks.words)
@@ -39,12 +27,6 @@ returns-in-Ok-clause-firm g c = firm_trans _ _ _ c.begin.ensures.firm c.touch_ch
 pub returns-in-Ok-clause-goes : goal.returns-in-Ok-clause-goes
 returns-in-Ok-clause-goes g c = c.begin.ensures.goes then c.touch_change.ensures.goes
 
-pub returns-in-Ok-clause-sound : goal.returns-in-Ok-clause-sound
-returns-in-Ok-clause-sound g c = c.touch_change.ensures.sound
-
-pub returns-in-Err-Stopped-clause-ok : goal.returns-in-Err-Stopped-clause-ok
-returns-in-Err-Stopped-clause-ok g c = tt
-
 pub returns-in-Err-Stopped-clause-fault : goal.returns-in-Err-Stopped-clause-fault
 returns-in-Err-Stopped-clause-fault g c = λ is. absurd (stop_no_fault is)
 
@@ -57,32 +39,11 @@ returns-in-Err-Stopped-clause-firm g c = firm_trans _ _ _ c.begin.ensures.firm c
 pub returns-in-Err-Stopped-clause-goes : goal.returns-in-Err-Stopped-clause-goes
 returns-in-Err-Stopped-clause-goes g c = c.begin.ensures.goes then c.touch_change.ensures.goes
 
-pub returns-in-Err-Stopped-clause-sound : goal.returns-in-Err-Stopped-clause-sound
-returns-in-Err-Stopped-clause-sound g c = c.touch_change.ensures.sound
-
-pub touch_change-requires-clause-sound : goal.touch_change-requires-clause-sound
-touch_change-requires-clause-sound g c = c.begin.ensures.sound
-
 pub touch_change-requires-clause-shape : goal.touch_change-requires-clause-shape
 touch_change-requires-clause-shape g c = shape_dropped _ _ _ c.requires.shape c.begin.ensures.looks.count c.begin.ensures.drops
 
-pub touch_change-requires-clause-ino : goal.touch_change-requires-clause-ino
-touch_change-requires-clause-ino g c = c.requires.ino
-
 pub touch_change-requires-clause-can : goal.touch_change-requires-clause-can
 touch_change-requires-clause-can g c = record { makes = c.requires.can.makes; one = c.requires.can.one; unnamed = λ e on cached. let was = c.begin.ensures.drops.kept _ cached in was.1 ∙ c.requires.can.unnamed e on was.0 }
-
-pub rollback-requires-clause-sound : goal.rollback-requires-clause-sound
-rollback-requires-clause-sound g c = c.touch_change.ensures.sound
-
-pub rollback-requires-clause-in_update : goal.rollback-requires-clause-in_update
-rollback-requires-clause-in_update g c = c.touch_change.ensures.in_update
-
-pub touch_change-requires-clause-in_update : goal.touch_change-requires-clause-in_update
-touch_change-requires-clause-in_update g c = c.in_ok-begin.ensures.ok.updating
-
-pub touch_change-requires-clause-room : goal.touch_change-requires-clause-room
-touch_change-requires-clause-room g c = c.in_ok-begin.ensures.ok.touches
 
 pub returns-in_err-begin-clause-caches : goal.returns-in_err-begin-clause-caches
 returns-in_err-begin-clause-caches g c = caches_by_drops _ _ _ c.begin.ensures.drops
@@ -98,12 +59,6 @@ returns-in-Ok-clause-shape g c = shape_updated _ _ _ _ _ (shape_dropped _ _ _ c.
 
 pub returns-in-Err-Stopped-clause-shape : goal.returns-in-Err-Stopped-clause-shape
 returns-in-Err-Stopped-clause-shape g c = shape_updated _ _ _ _ _ (shape_dropped _ _ _ c.requires.shape c.begin.ensures.looks.count c.begin.ensures.drops) c.touch_change.ensures.looks.count c.touch_change.ensures.caches
-
-pub begin-requires-clause-idle : goal.begin-requires-clause-idle
-begin-requires-clause-idle g c = c.requires.idle
-
-pub begin-requires-clause-sound : goal.begin-requires-clause-sound
-begin-requires-clause-sound g c = c.requires.sound
 
 pub returns-in-Err-Stopped-clause-ends : goal.returns-in-Err-Stopped-clause-ends
 returns-in-Err-Stopped-clause-ends g c = ends_later _ _ _ _ c.begin.ensures.ends.later c.in_ok-begin.ensures.ends.cause (ends_told _ _ _ _ c.in-Err-Stopped.field-0-is c.in-Err-Stopped.ensures.ends)
@@ -129,9 +84,6 @@ returns-in_err-rollback-in-Err-Fault-clause-goes g c = c.begin.ensures.goes then
 pub returns-in_err-rollback-in-Err-Fault-clause-shape : goal.returns-in_err-rollback-in-Err-Fault-clause-shape
 returns-in_err-rollback-in-Err-Fault-clause-shape g c = shape_dropped _ _ _ (shape_updated _ _ _ _ _ (shape_dropped _ _ _ c.requires.shape c.begin.ensures.looks.count c.begin.ensures.drops) c.touch_change.ensures.looks.count c.touch_change.ensures.caches) c.rollback.ensures.count c.rollback.ensures.drops
 
-pub returns-in_err-rollback-in-Err-Fault-clause-sound : goal.returns-in_err-rollback-in-Err-Fault-clause-sound
-returns-in_err-rollback-in-Err-Fault-clause-sound g c = c.rollback.ensures.sound
-
 pub returns-in_err-rollback-in-Err-Fault-clause-standing : goal.returns-in_err-rollback-in-Err-Fault-clause-standing
 returns-in_err-rollback-in-Err-Fault-clause-standing g c = c.rollback.ensures.standing ∙ c.touch_change.ensures.standing ∙ c.begin.ensures.standing
 
@@ -147,9 +99,6 @@ returns-in_ok-rollback-in-Err-Fault-clause-goes g c = c.begin.ensures.goes then 
 pub returns-in_ok-rollback-in-Err-Fault-clause-shape : goal.returns-in_ok-rollback-in-Err-Fault-clause-shape
 returns-in_ok-rollback-in-Err-Fault-clause-shape g c = shape_dropped _ _ _ (shape_updated _ _ _ _ _ (shape_dropped _ _ _ c.requires.shape c.begin.ensures.looks.count c.begin.ensures.drops) c.touch_change.ensures.looks.count c.touch_change.ensures.caches) c.rollback.ensures.count c.rollback.ensures.drops
 
-pub returns-in_ok-rollback-in-Err-Fault-clause-sound : goal.returns-in_ok-rollback-in-Err-Fault-clause-sound
-returns-in_ok-rollback-in-Err-Fault-clause-sound g c = c.rollback.ensures.sound
-
 pub returns-in_ok-rollback-in-Err-Fault-clause-standing : goal.returns-in_ok-rollback-in-Err-Fault-clause-standing
 returns-in_ok-rollback-in-Err-Fault-clause-standing g c = c.rollback.ensures.standing ∙ c.touch_change.ensures.standing ∙ c.begin.ensures.standing
 
@@ -164,9 +113,6 @@ returns-in_err-rollback-in-Err-Fault-clause-ends g c = let p = err_from_is_err_a
 
 pub returns-in_ok-rollback-in-Err-Fault-clause-fault : goal.returns-in_ok-rollback-in-Err-Fault-clause-fault
 returns-in_ok-rollback-in-Err-Fault-clause-fault g c = λ is. (c.in_ok-rollback-in-Err-Fault.ensures.ok.1, c.in_ok-rollback-in-Err-Fault.ensures.ok.0 ∙ c.touch_change.ensures.standing ∙ c.in_ok-begin.ensures.ok.standing)
-
-pub returns-in_ok-rollback-in-Err-Fault-clause-ok : goal.returns-in_ok-rollback-in-Err-Fault-clause-ok
-returns-in_ok-rollback-in-Err-Fault-clause-ok g c = tt
 
 pub returns-in_ok-rollback-in-Err-Fault-clause-ends : goal.returns-in_ok-rollback-in-Err-Fault-clause-ends
 returns-in_ok-rollback-in-Err-Fault-clause-ends g c = ends_later _ _ _ _ c.begin.ensures.ends.later c.in_ok-begin.ensures.ends.cause (ends_undone {T = Unit {0}} _ _ _ (ends_told _ _ _ _ c.in-Err-Fault.field-0-is c.in-Err-Fault.ensures.ends) c.rollback.ensures.ends.later c.in_ok-rollback-in-Err-Fault.ensures.ends.cause)

@@ -28,9 +28,6 @@ plan_growth-requires-clause-ready g c =
 pub returns-in_err-change-clause-goes : goal.returns-in_err-change-clause-goes
 returns-in_err-change-clause-goes g c = (g.met.V.Volume.passes_keeps _ _ (g.met.V.Blocks.passes_trans _ _ _ c.take_lowest.ensures.passes c.span_blocks.ensures.passes)).goes then c.plan_growth.ensures.goes
 
-pub span_blocks-requires-clause-can : goal.span_blocks-requires-clause-can
-span_blocks-requires-clause-can g c = c.take_lowest.ensures.looks.still
-
 pub returns-in_err-blocks-clause-leaves : goal.returns-in_err-blocks-clause-leaves
 returns-in_err-blocks-clause-leaves g c =
     let shape = c.args.shape.now in
@@ -82,17 +79,8 @@ returns-clause-leaves g c =
 pub returns-clause-goes : goal.returns-clause-goes
 returns-clause-goes g c = (g.met.V.Volume.passes_keeps _ _ (g.met.V.Blocks.passes_trans _ _ _ c.take_lowest.ensures.passes c.span_blocks.ensures.passes)).goes then c.plan_growth.ensures.goes
 
-pub take_lowest-requires-clause-sound : goal.take_lowest-requires-clause-sound
-take_lowest-requires-clause-sound g c = c.requires.sound
-
-pub take_lowest-requires-clause-ready : goal.take_lowest-requires-clause-ready
-take_lowest-requires-clause-ready g c = c.requires.ready
-
 pub returns-in_err-taken-clause-goes : goal.returns-in_err-taken-clause-goes
 returns-in_err-taken-clause-goes g c = (g.met.V.Volume.passes_keeps _ _ c.take_lowest.ensures.passes).goes
-
-pub returns-in_err-taken-clause-sound : goal.returns-in_err-taken-clause-sound
-returns-in_err-taken-clause-sound g c = c.take_lowest.ensures.sound
 
 pub returns-in_err-taken-clause-ends : goal.returns-in_err-taken-clause-ends
 returns-in_err-taken-clause-ends g c =
@@ -103,21 +91,6 @@ pub returns-in_err-taken-clause-small : goal.returns-in_err-taken-clause-small
 returns-in_err-taken-clause-small g c =
     let p = err_from_is_err_and c.from_residual.result c.from_residual.ensures.1 in
     λ is. c.take_lowest.ensures.small (err_handed _ _ _ _ _ c.in_err-taken.was p.1 p.2 is)
-
-pub plan_growth-requires-clause-sound : goal.plan_growth-requires-clause-sound
-plan_growth-requires-clause-sound g c = c.span_blocks.ensures.sound
-
-pub plan_growth-requires-clause-ino : goal.plan_growth-requires-clause-ino
-plan_growth-requires-clause-ino g c = c.requires.ino
-
-pub plan_growth-requires-clause-grows : goal.plan_growth-requires-clause-grows
-plan_growth-requires-clause-grows g c = c.requires.grows
-
-pub plan_growth-requires-clause-apart : goal.plan_growth-requires-clause-apart
-plan_growth-requires-clause-apart g c = c.in_ok-taken.ensures.apart
-
-pub returns-in_err-change-clause-sound : goal.returns-in_err-change-clause-sound
-returns-in_err-change-clause-sound g c = c.plan_growth.ensures.sound
 
 pub returns-in_err-change-clause-ends : goal.returns-in_err-change-clause-ends
 returns-in_err-change-clause-ends g c =
@@ -144,15 +117,6 @@ returns-in_err-change-clause-leaves g c =
     let looked : LeavesInUse (volume_layout shape x.words) x k y j = leaves_looked shape _ _ _ _ x y k j c.requires.ready (look_trans shape x (g.V.Blocks.seen c.take_lowest.new.v) y c.take_lowest.ensures.looks c.span_blocks.ensures.looks) (g.met.V.Volume.passes_keeps _ _ (g.met.V.Blocks.passes_trans _ _ _ c.take_lowest.ensures.passes c.span_blocks.ensures.passes)) in
     leaves_trans shape x k y j (g.V.Blocks.seen c.plan_growth.new.v) (g.V.Volume.kept c.plan_growth.new.v) c.requires.ready looked c.plan_growth.ensures.leaves
 
-pub span_blocks-requires-clause-sound : goal.span_blocks-requires-clause-sound
-span_blocks-requires-clause-sound g c = c.take_lowest.ensures.sound
-
-pub span_blocks-requires-clause-ino : goal.span_blocks-requires-clause-ino
-span_blocks-requires-clause-ino g c = c.requires.ino
-
-pub returns-in_err-blocks-clause-sound : goal.returns-in_err-blocks-clause-sound
-returns-in_err-blocks-clause-sound g c = c.span_blocks.ensures.sound
-
 pub returns-in_err-blocks-clause-small : goal.returns-in_err-blocks-clause-small
 returns-in_err-blocks-clause-small g c =
     let p = err_from_is_err_and c.from_residual-in_err-blocks.result c.from_residual-in_err-blocks.ensures.1 in
@@ -163,9 +127,6 @@ returns-in_err-blocks-clause-no_space g c =
     let p = err_from_is_err_and c.from_residual-in_err-blocks.result c.from_residual-in_err-blocks.ensures.1 in
     λ is. absurd ((unrefused_read c.from_residual-in_err-blocks.result _ p.0 p.1 p.2).0 is)
 
-pub returns-clause-sound : goal.returns-clause-sound
-returns-clause-sound g c = c.plan_growth.ensures.sound
-
 pub returns-clause-ends : goal.returns-clause-ends
 returns-clause-ends g c = size_then _ _ _ c.take_lowest.result _ _ c.in_ok-taken.was c.take_lowest.ensures.ends (ends_by_after _ _ _ _ _ c.span_blocks.ensures.ends.later (read_runs _ _ _ c.in_ok-blocks.ensures.ends) (ends_well_ok _ _ _ c.plan_growth.ensures.ends.later (size_runs _ _ _ c.in_ok-change.ensures.ends)))
 
@@ -174,12 +135,6 @@ returns-clause-no_space g c = λ is. absurd ((unrefused_ok _).0 is)
 
 pub returns-clause-small : goal.returns-clause-small
 returns-clause-small g c = λ is. (unrefused_ok _).1 is
-
-pub wanted_count-wanted-requires-clause-grows : goal.wanted_count-wanted-requires-clause-grows
-wanted_count-wanted-requires-clause-grows g c = c.requires.grows
-
-pub wanted_count-wanted-requires-clause-most : goal.wanted_count-wanted-requires-clause-most
-wanted_count-wanted-requires-clause-most g c = c.requires.most
 
 pub plan_growth-requires-clause-count : goal.plan_growth-requires-clause-count
 plan_growth-requires-clause-count g c = c.in_ok-taken.ensures.count ∙ c.wanted_count-wanted.ensures.wanted

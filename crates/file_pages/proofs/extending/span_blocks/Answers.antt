@@ -17,45 +17,6 @@ returns-clause-value g c = λ len.
     ∙ ap (λ xs. xs ++ page_blocks n c.max.result (c.args.end - c.max.result)) c.in_ok-blocks.ensures.value
     ∙ span_joined n (placed_at f c.args.i.0) c.args.first c.page_count-have.result c.min.result c.max.result c.args.end c.min.ensures c.max.ensures c.requires.order (omega (arith, have, c.requires.past)) (λ p few. page_old old len p taken (omega (arith, few, have)))
 
-pub returns-in_err-blocks-clause-looks : goal.returns-in_err-blocks-clause-looks
-returns-in_err-blocks-clause-looks g c = c.page_blocks.ensures.looks
-
-pub returns-in_err-blocks-clause-passes : goal.returns-in_err-blocks-clause-passes
-returns-in_err-blocks-clause-passes g c = c.page_blocks.ensures.passes
-
-pub returns-in_err-blocks-clause-sound : goal.returns-in_err-blocks-clause-sound
-returns-in_err-blocks-clause-sound g c = c.page_blocks.ensures.sound
-
-pub returns-in_err-push_taken-clause-looks : goal.returns-in_err-push_taken-clause-looks
-returns-in_err-push_taken-clause-looks g c = c.page_blocks.ensures.looks
-
-pub returns-in_err-push_taken-clause-passes : goal.returns-in_err-push_taken-clause-passes
-returns-in_err-push_taken-clause-passes g c = c.page_blocks.ensures.passes
-
-pub returns-in_err-push_taken-clause-sound : goal.returns-in_err-push_taken-clause-sound
-returns-in_err-push_taken-clause-sound g c = c.page_blocks.ensures.sound
-
-pub returns-clause-looks : goal.returns-clause-looks
-returns-clause-looks g c = c.page_blocks.ensures.looks
-
-pub returns-clause-passes : goal.returns-clause-passes
-returns-clause-passes g c = c.page_blocks.ensures.passes
-
-pub returns-clause-sound : goal.returns-clause-sound
-returns-clause-sound g c = c.page_blocks.ensures.sound
-
-pub page_blocks-requires-clause-sound : goal.page_blocks-requires-clause-sound
-page_blocks-requires-clause-sound g c = c.requires.sound
-
-pub page_blocks-requires-clause-can : goal.page_blocks-requires-clause-can
-page_blocks-requires-clause-can g c = c.requires.can
-
-pub page_blocks-requires-clause-ino : goal.page_blocks-requires-clause-ino
-page_blocks-requires-clause-ino g c = c.requires.ino
-
-pub page_blocks-requires-clause-inode : goal.page_blocks-requires-clause-inode
-page_blocks-requires-clause-inode g c = c.requires.inode
-
 pub returns-in_err-blocks-clause-ends : goal.returns-in_err-blocks-clause-ends
 returns-in_err-blocks-clause-ends g c = let p = err_from_is_err_and c.from_residual.result c.from_residual.ensures.1 in ends_read _ _ _ c.from_residual.result _ p.0 c.in_err-blocks.was p.1 p.2 c.page_blocks.ensures.ends
 

@@ -312,57 +312,6 @@ returns-clause-ends g c =
     (ends_by_after _ _ _ _ _ c.clear_tail.ensures.ends.later c.in_ok-clear_tail.ensures.ends.cause
     (ends_by_after _ _ _ _ _ c.store_parts.ensures.ends.later (bytes_runs _ _ _ c.in_ok-store_parts.ensures.ends) (ends_told_after _ _ c.min-within.result c.commit_change.result c.told_after.result c.told_after.ensures c.commit_change.ensures.ends)))
 
-pub returns-in_err-planned-clause-sound : goal.returns-in_err-planned-clause-sound
-returns-in_err-planned-clause-sound g c = c.plan_extension.ensures.sound
-
-pub returns-in_err-clear_tail-clause-sound : goal.returns-in_err-clear_tail-clause-sound
-returns-in_err-clear_tail-clause-sound g c = c.clear_tail.ensures.sound
-
-pub returns-in_err-store_parts-clause-sound : goal.returns-in_err-store_parts-clause-sound
-returns-in_err-store_parts-clause-sound g c = c.store_parts.ensures.sound
-
-pub returns-clause-sound : goal.returns-clause-sound
-returns-clause-sound g c = c.commit_change.ensures.sound
-
-pub returns-in_err-planned-clause-goes : goal.returns-in_err-planned-clause-goes
-returns-in_err-planned-clause-goes g c = c.plan_extension.ensures.goes
-
-pub plan_extension-requires-clause-sound : goal.plan_extension-requires-clause-sound
-plan_extension-requires-clause-sound g c = c.requires.sound
-
-pub plan_extension-requires-clause-ready : goal.plan_extension-requires-clause-ready
-plan_extension-requires-clause-ready g c = c.requires.ready
-
-pub plan_extension-requires-clause-ino : goal.plan_extension-requires-clause-ino
-plan_extension-requires-clause-ino g c = c.requires.ino
-
-pub plan_extension-requires-clause-inode : goal.plan_extension-requires-clause-inode
-plan_extension-requires-clause-inode g c = c.requires.inode
-
-pub plan_extension-requires-clause-file : goal.plan_extension-requires-clause-file
-plan_extension-requires-clause-file g c = c.requires.file
-
-pub plan_extension-requires-clause-most : goal.plan_extension-requires-clause-most
-plan_extension-requires-clause-most g c = c.requires.most
-
-pub clear_tail-requires-clause-sound : goal.clear_tail-requires-clause-sound
-clear_tail-requires-clause-sound g c = c.plan_extension.ensures.sound
-
-pub clear_tail-requires-clause-ino : goal.clear_tail-requires-clause-ino
-clear_tail-requires-clause-ino g c = c.requires.ino
-
-pub store_parts-requires-clause-sound : goal.store_parts-requires-clause-sound
-store_parts-requires-clause-sound g c = c.clear_tail.ensures.sound
-
-pub commit_change-requires-clause-sound : goal.commit_change-requires-clause-sound
-commit_change-requires-clause-sound g c = c.store_parts.ensures.sound
-
-pub commit_change-requires-clause-idle : goal.commit_change-requires-clause-idle
-commit_change-requires-clause-idle g c = c.store_parts.ensures.idle
-
-pub commit_change-requires-clause-ino : goal.commit_change-requires-clause-ino
-commit_change-requires-clause-ino g c = c.requires.ino
-
 pub returns-clause-small : goal.returns-clause-small
 returns-clause-small g c = (told_unrefused c.min-within.result c.commit_change.result c.told_after.result c.told_after.ensures c.commit_change.ensures.other).1
 
@@ -381,20 +330,11 @@ clear_tail-requires-clause-size g c = (file_left c.args.shape.now _ _ _ _ c.args
 pub clear_tail-requires-clause-grows : goal.clear_tail-requires-clause-grows
 clear_tail-requires-clause-grows g c = omega (arith, c.requires.past)
 
-pub store_parts-requires-clause-file : goal.store_parts-requires-clause-file
-store_parts-requires-clause-file g c = c.requires.ino.from
-
 pub store_parts-requires-clause-file_to : goal.store_parts-requires-clause-file_to
 store_parts-requires-clause-file_to g c = let to = c.requires.ino.to in let most = c.requires.ready.order.has_shape.sizes.inodes_to in omega (arith, to, most)
 
 pub store_parts-requires-clause-from : goal.store_parts-requires-clause-from
 store_parts-requires-clause-from g c = omega arith
-
-pub store_parts-requires-clause-idle : goal.store_parts-requires-clause-idle
-store_parts-requires-clause-idle g c = c.clear_tail.ensures.stores.ready.idle
-
-pub store_parts-requires-clause-most : goal.store_parts-requires-clause-most
-store_parts-requires-clause-most g c = c.requires.most
 
 pub store_parts-requires-clause-small : goal.store_parts-requires-clause-small
 store_parts-requires-clause-small g c = omega (arith, c.requires.past)

@@ -42,32 +42,8 @@ returns-clause-forgotten g c =
     let all : length c.args.blocks.now ≤ c.loop-t.t = omega (arith, c.loop-t-test.false) in
     forgotten_all c.args.blocks.now c.loop-t.t (g.V.Blocks.seen c.loop-t.v) all c.loop-t.invariant.forgotten
 
-pub forget-requires-clause-idle : goal.forget-requires-clause-idle
-forget-requires-clause-idle g c = c.loop-t.invariant.idle
-
-pub forget-requires-clause-sound : goal.forget-requires-clause-sound
-forget-requires-clause-sound g c = c.loop-t.invariant.sound
-
-pub returns-clause-beside : goal.returns-clause-beside
-returns-clause-beside g c = c.loop-t.invariant.beside
-
-pub returns-clause-goes : goal.returns-clause-goes
-returns-clause-goes g c = c.loop-t.invariant.goes
-
-pub returns-clause-idle : goal.returns-clause-idle
-returns-clause-idle g c = c.loop-t.invariant.idle
-
-pub returns-clause-sound : goal.returns-clause-sound
-returns-clause-sound g c = c.loop-t.invariant.sound
-
 pub returns-clause-ends : goal.returns-clause-ends
 returns-clause-ends g c = halts_ok _ _ _ c.loop-t.invariant.later c.loop-t.invariant.running
-
-pub returns-in_err-forget-clause-idle : goal.returns-in_err-forget-clause-idle
-returns-in_err-forget-clause-idle g c = c.forget.ensures.idle
-
-pub returns-in_err-forget-clause-sound : goal.returns-in_err-forget-clause-sound
-returns-in_err-forget-clause-sound g c = c.forget.ensures.sound
 
 pub returns-in_err-forget-clause-forgotten : goal.returns-in_err-forget-clause-forgotten
 returns-in_err-forget-clause-forgotten g c = if_err c.from_residual.result _ c.from_residual.ensures.0

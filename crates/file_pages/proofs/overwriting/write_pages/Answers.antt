@@ -50,18 +50,6 @@ returns-in_err-store_span-clause-ends g c = let e = err_from_is_err_and c.from_r
 pub returns-clause-ends : goal.returns-clause-ends
 returns-clause-ends g c = ends_write_done _ _ _ _ c.in_ok-store_span.ensures.ends
 
-pub returns-clause-goes : goal.returns-clause-goes
-returns-clause-goes g c = c.store_span.ensures.goes
-
-pub returns-clause-sound : goal.returns-clause-sound
-returns-clause-sound g c = c.store_span.ensures.sound
-
-pub returns-in_err-store_span-clause-goes : goal.returns-in_err-store_span-clause-goes
-returns-in_err-store_span-clause-goes g c = c.store_span.ensures.goes
-
-pub returns-in_err-store_span-clause-sound : goal.returns-in_err-store_span-clause-sound
-returns-in_err-store_span-clause-sound g c = c.store_span.ensures.sound
-
 pub returns-in_err-store_span-clause-small : goal.returns-in_err-store_span-clause-small
 returns-in_err-store_span-clause-small g c = let e = err_from_is_err_and c.from_residual.result c.from_residual.ensures.1 in (bytes_unrefused c.from_residual.result _ _ e.1 e.2).1
 
@@ -73,15 +61,6 @@ returns-clause-small g c = (write_unrefused _).1
 
 pub returns-clause-spacious : goal.returns-clause-spacious
 returns-clause-spacious g c = (write_unrefused _).0
-
-pub store_span-requires-clause-sound : goal.store_span-requires-clause-sound
-store_span-requires-clause-sound g c = c.requires.sound
-
-pub store_span-requires-clause-idle : goal.store_span-requires-clause-idle
-store_span-requires-clause-idle g c = c.requires.ready.idle
-
-pub store_span-requires-clause-file : goal.store_span-requires-clause-file
-store_span-requires-clause-file g c = c.requires.ino.from
 
 pub store_span-requires-clause-file_to : goal.store_span-requires-clause-file_to
 store_span-requires-clause-file_to g c = let to = c.requires.ino.to in let most = c.requires.ready.order.has_shape.sizes.inodes_to in omega (arith, to, most)
@@ -120,12 +99,6 @@ store_span-requires-clause-named g c =
     let blocks = numbers c.args.blocks.now in
     let its : IsPages (volume_layout shape x.words) i first blocks × (length blocks ≡ length c.args.blocks.now) = pages_of (volume_layout shape x.words) i first (length c.args.blocks.now) blocks r.ino (omega (arith, r.file)) (omega (arith, r.pages, r.size)) r.blocks in
     subst (λ m. SpanNamed blocks first i m x) (sym r.size) (pages_named (volume_layout shape x.words) x i first blocks (r.ready.order.named.each i r.ino) r.file its.0)
-
-pub store_span-requires-clause-to : goal.store_span-requires-clause-to
-store_span-requires-clause-to g c = c.requires.to
-
-pub store_span-requires-clause-few : goal.store_span-requires-clause-few
-store_span-requires-clause-few g c = c.requires.few
 
 pub store_span-requires-clause-from : goal.store_span-requires-clause-from
 store_span-requires-clause-from g c = omega (arith, c.requires.page)

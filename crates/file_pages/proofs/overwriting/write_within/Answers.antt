@@ -1,6 +1,6 @@
 use Rattle.node_pages.proofs.LookingUpRules.{can_look_up}
 use Rattle.node_pages.proofs.Ends.{read_runs}
-use Rattle.file_pages.proofs.Common.{◌≡◌, ◌-◌, ◌/◌, ◌≤◌, ◌∙◌, ◌∷◌, [], BlockWords, length, refl, sym, ap, arith, inl, err_from_is_err_and, ◌then◌, ends_by_after, numbers, placed_at, volume_layout, numbered_of, largest_size, LeavesInUse}
+use Rattle.file_pages.proofs.Common.{◌≡◌, ◌-◌, ◌/◌, ◌≤◌, ◌∙◌, ◌∷◌, [], BlockWords, length, sym, ap, arith, inl, err_from_is_err_and, ◌then◌, ends_by_after, numbers, placed_at, volume_layout, numbered_of, largest_size, LeavesInUse}
 use Rattle.node_pages.proofs.OrderRules.{leaves_looked, ready_left}
 use Rattle.node_pages.proofs.Given.{direct_page, given_most}
 use Rattle.node_pages.proofs.Listed.{as_many}
@@ -22,17 +22,8 @@ returns-in_err-blocks-clause-leaves g c =
     let p = err_from_is_err_and c.from_residual.result c.from_residual.ensures.1 in
     none_read shape x k y j i c.args.off c.args.bytes.now c.from_residual.result _ p.0 p.1 p.2 c.requires.ready (g.met.V.Volume.settled _ c.requires.sound) (held_file shape x.words i c.requires.ino (sym c.requires.inode.kind ∙ c.requires.file)) looked
 
-pub returns-in_err-blocks-clause-sound : goal.returns-in_err-blocks-clause-sound
-returns-in_err-blocks-clause-sound g c = c.page_blocks.ensures.sound
-
 pub returns-in_err-blocks-clause-goes : goal.returns-in_err-blocks-clause-goes
 returns-in_err-blocks-clause-goes g c = (g.met.V.Volume.passes_keeps _ _ c.page_blocks.ensures.passes).goes
-
-pub page_blocks-requires-clause-sound : goal.page_blocks-requires-clause-sound
-page_blocks-requires-clause-sound g c = c.requires.sound
-
-pub page_blocks-requires-clause-ino : goal.page_blocks-requires-clause-ino
-page_blocks-requires-clause-ino g c = c.requires.ino
 
 pub page_blocks-requires-clause-can : goal.page_blocks-requires-clause-can
 page_blocks-requires-clause-can g c = can_look_up c.args.shape.now _ c.requires.ready.order.has_shape c.requires.ready.order.mapped c.requires.ready.order.named
@@ -49,47 +40,8 @@ returns-in_err-blocks-clause-small g c = let p = err_from_is_err_and c.from_resi
 pub returns-in_err-blocks-clause-spacious : goal.returns-in_err-blocks-clause-spacious
 returns-in_err-blocks-clause-spacious g c = let p = err_from_is_err_and c.from_residual.result c.from_residual.ensures.1 in (read_unrefused c.from_residual.result _ _ p.1 p.2).0
 
-pub returns-in-Some-clause-ends : goal.returns-in-Some-clause-ends
-returns-in-Some-clause-ends g c = c.write_pages.ensures.ends
-
-pub returns-in-Some-clause-goes : goal.returns-in-Some-clause-goes
-returns-in-Some-clause-goes g c = c.write_pages.ensures.goes
-
-pub returns-in-Some-clause-leaves : goal.returns-in-Some-clause-leaves
-returns-in-Some-clause-leaves g c = c.write_pages.ensures.leaves
-
-pub returns-in-Some-clause-small : goal.returns-in-Some-clause-small
-returns-in-Some-clause-small g c = c.write_pages.ensures.small
-
-pub returns-in-Some-clause-sound : goal.returns-in-Some-clause-sound
-returns-in-Some-clause-sound g c = c.write_pages.ensures.sound
-
-pub returns-in-Some-clause-spacious : goal.returns-in-Some-clause-spacious
-returns-in-Some-clause-spacious g c = c.write_pages.ensures.spacious
-
 pub write_pages-requires-clause-file : goal.write_pages-requires-clause-file
 write_pages-requires-clause-file g c = sym c.requires.inode.kind ∙ c.requires.file
-
-pub write_pages-requires-clause-ino : goal.write_pages-requires-clause-ino
-write_pages-requires-clause-ino g c = c.requires.ino
-
-pub write_pages-requires-clause-ready : goal.write_pages-requires-clause-ready
-write_pages-requires-clause-ready g c = c.requires.ready
-
-pub write_pages-requires-clause-some : goal.write_pages-requires-clause-some
-write_pages-requires-clause-some g c = c.requires.some
-
-pub write_pages-requires-clause-sound : goal.write_pages-requires-clause-sound
-write_pages-requires-clause-sound g c = c.requires.sound
-
-pub write_pages-requires-clause-within : goal.write_pages-requires-clause-within
-write_pages-requires-clause-within g c = c.requires.within
-
-pub write_pages-requires-clause-page : goal.write_pages-requires-clause-page
-write_pages-requires-clause-page g c = refl
-
-pub write_pages-requires-clause-size : goal.write_pages-requires-clause-size
-write_pages-requires-clause-size g c = c.requires.inode.size
 
 pub write_pages-requires-clause-blocks : goal.write_pages-requires-clause-blocks
 write_pages-requires-clause-blocks g c =
@@ -106,9 +58,6 @@ write_pages-requires-clause-few g c = let one = c.in-Some.ensures in let low = o
 pub write_pages-requires-clause-pages : goal.write_pages-requires-clause-pages
 write_pages-requires-clause-pages g c = omega (arith, c.requires.some, c.requires.within)
 
-pub write_pages-requires-2-clause-sound : goal.write_pages-requires-2-clause-sound
-write_pages-requires-2-clause-sound g c = c.page_blocks.ensures.sound
-
 pub write_pages-requires-2-clause-ready : goal.write_pages-requires-2-clause-ready
 write_pages-requires-2-clause-ready g c =
     let shape = c.args.shape.now in
@@ -119,18 +68,6 @@ write_pages-requires-2-clause-ready g c =
     let call = c.page_blocks.ensures in
     let looked : LeavesInUse (volume_layout shape x.words) x k y j = leaves_looked shape _ _ _ _ x y k j c.requires.ready call.looks (g.met.V.Volume.passes_keeps _ _ call.passes) in
     ready_left shape x k y j c.requires.ready looked
-
-pub write_pages-requires-2-clause-ino : goal.write_pages-requires-2-clause-ino
-write_pages-requires-2-clause-ino g c = c.requires.ino
-
-pub write_pages-requires-2-clause-some : goal.write_pages-requires-2-clause-some
-write_pages-requires-2-clause-some g c = c.requires.some
-
-pub write_pages-requires-2-clause-within : goal.write_pages-requires-2-clause-within
-write_pages-requires-2-clause-within g c = c.requires.within
-
-pub write_pages-requires-2-clause-page : goal.write_pages-requires-2-clause-page
-write_pages-requires-2-clause-page g c = refl
 
 pub write_pages-requires-2-clause-file : goal.write_pages-requires-2-clause-file
 write_pages-requires-2-clause-file g c = ap (λ (f : BlockWords). (placed_at f c.args.i.0).kind) c.page_blocks.ensures.looks.looks.words ∙ sym c.requires.inode.kind ∙ c.requires.file
@@ -192,15 +129,6 @@ returns-clause-leaves g c =
     let call = c.page_blocks.ensures in
     let looked : LeavesInUse (volume_layout shape x.words) x k y j = leaves_looked shape _ _ _ _ x y k j c.requires.ready call.looks (g.met.V.Volume.passes_keeps _ _ call.passes) in
     write_after shape x k y j (g.V.Blocks.seen c.write_pages-2.new.v) (g.V.Volume.kept c.write_pages-2.new.v) c.args.i.0 c.args.off c.args.bytes.now c.write_pages-2.result c.requires.ready call.looks.looks.words looked c.write_pages-2.ensures.leaves
-
-pub returns-clause-small : goal.returns-clause-small
-returns-clause-small g c = c.write_pages-2.ensures.small
-
-pub returns-clause-spacious : goal.returns-clause-spacious
-returns-clause-spacious g c = c.write_pages-2.ensures.spacious
-
-pub returns-clause-sound : goal.returns-clause-sound
-returns-clause-sound g c = c.write_pages-2.ensures.sound
 
 pub returns-clause-goes : goal.returns-clause-goes
 returns-clause-goes g c = (g.met.V.Volume.passes_keeps _ _ c.page_blocks.ensures.passes).goes then c.write_pages-2.ensures.goes

@@ -5,17 +5,8 @@ use Rattle.node_pages.proofs.EndsOn.{ends_vol, ends_vol_ok, if_err}
 use Rattle.file_pages.proofs.Filled.{some_left}
 use Rattle.file_pages.proofs.pieces.end_words.Goals as goal
 
-pub own_word-requires-clause-sound : goal.own_word-requires-clause-sound
-own_word-requires-clause-sound g c = c.requires.sound
-
-pub own_word-requires-clause-name : goal.own_word-requires-clause-name
-own_word-requires-clause-name g c = c.requires.name
-
 pub own_word-requires-clause-place : goal.own_word-requires-clause-place
 own_word-requires-clause-place g c = record { block = c.requires.block; word = omega (arith, c.requires.some, c.requires.within) }
-
-pub own_word-requires-2-clause-sound : goal.own_word-requires-2-clause-sound
-own_word-requires-2-clause-sound g c = c.own_word.ensures.sound
 
 pub own_word-requires-2-clause-name : goal.own_word-requires-2-clause-name
 own_word-requires-2-clause-name g c = can_name_on _ _ _ _ c.requires.name c.own_word.ensures.caches
@@ -41,29 +32,14 @@ returns-clause-passes g c = g.met.V.Blocks.passes_trans _ _ _ c.own_word.ensures
 pub returns-clause-ends : goal.returns-clause-ends
 returns-clause-ends g c = ends_vol_ok _ _ _ (le_trans c.own_word.ensures.ends.later c.own_word-2.ensures.ends.later) (c.in_ok-last.ensures.ends.cause ∙ c.in_ok-first.ensures.ends.cause)
 
-pub returns-clause-sound : goal.returns-clause-sound
-returns-clause-sound g c = c.own_word-2.ensures.sound
-
 pub returns-in_err-first-clause-first : goal.returns-in_err-first-clause-first
 returns-in_err-first-clause-first g c = if_err c.from_residual.result _ c.from_residual.ensures.0
 
 pub returns-in_err-first-clause-last : goal.returns-in_err-first-clause-last
 returns-in_err-first-clause-last g c = if_err c.from_residual.result _ c.from_residual.ensures.0
 
-pub returns-in_err-first-clause-looks : goal.returns-in_err-first-clause-looks
-returns-in_err-first-clause-looks g c = c.own_word.ensures.looks
-
-pub returns-in_err-first-clause-caches : goal.returns-in_err-first-clause-caches
-returns-in_err-first-clause-caches g c = c.own_word.ensures.caches
-
-pub returns-in_err-first-clause-passes : goal.returns-in_err-first-clause-passes
-returns-in_err-first-clause-passes g c = c.own_word.ensures.passes
-
 pub returns-in_err-first-clause-ends : goal.returns-in_err-first-clause-ends
 returns-in_err-first-clause-ends g c = let p = err_from_is_err_and c.from_residual.result c.from_residual.ensures.1 in ends_vol _ _ c.own_word.result c.from_residual.result _ p.0 c.in_err-first.was p.1 p.2 c.own_word.ensures.ends
-
-pub returns-in_err-first-clause-sound : goal.returns-in_err-first-clause-sound
-returns-in_err-first-clause-sound g c = c.own_word.ensures.sound
 
 pub returns-in_err-last-clause-first : goal.returns-in_err-last-clause-first
 returns-in_err-last-clause-first g c = if_err c.from_residual-in_err-last.result _ c.from_residual-in_err-last.ensures.0
@@ -82,6 +58,3 @@ returns-in_err-last-clause-passes g c = g.met.V.Blocks.passes_trans _ _ _ c.own_
 
 pub returns-in_err-last-clause-ends : goal.returns-in_err-last-clause-ends
 returns-in_err-last-clause-ends g c = let p = err_from_is_err_and c.from_residual-in_err-last.result c.from_residual-in_err-last.ensures.1 in ends_later _ _ _ _ c.own_word.ensures.ends.later c.in_ok-first.ensures.ends.cause (ends_vol _ _ c.own_word-2.result c.from_residual-in_err-last.result _ p.0 c.in_err-last.was p.1 p.2 c.own_word-2.ensures.ends)
-
-pub returns-in_err-last-clause-sound : goal.returns-in_err-last-clause-sound
-returns-in_err-last-clause-sound g c = c.own_word-2.ensures.sound

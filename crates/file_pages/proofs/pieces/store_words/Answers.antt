@@ -33,17 +33,11 @@ returns-in-Err-Stopped-clause-goes g c = (g.met.V.Volume.passes_keeps _ _ c.end_
 pub returns-in_err-first-clause-firm : goal.returns-in_err-first-clause-firm
 returns-in_err-first-clause-firm g c = (g.met.V.Volume.passes_keeps _ _ c.end_words.ensures.passes).firm
 
-pub returns-in_err-first-clause-count : goal.returns-in_err-first-clause-count
-returns-in_err-first-clause-count g c = c.end_words.ensures.looks.count
-
 pub returns-in_err-first-clause-idle : goal.returns-in_err-first-clause-idle
 returns-in_err-first-clause-idle g c = (g.met.V.Volume.passes_keeps _ _ c.end_words.ensures.passes).updating ∙ c.requires.idle
 
 pub returns-in_err-first-clause-goes : goal.returns-in_err-first-clause-goes
 returns-in_err-first-clause-goes g c = (g.met.V.Volume.passes_keeps _ _ c.end_words.ensures.passes).goes
-
-pub returns-in_err-first-clause-sound : goal.returns-in_err-first-clause-sound
-returns-in_err-first-clause-sound g c = c.end_words.ensures.sound
 
 pub returns-in-Ok-clause-fault : goal.returns-in-Ok-clause-fault
 returns-in-Ok-clause-fault g c = λ k is. absurd (bytes_well _ k is)
@@ -54,29 +48,11 @@ returns-in-Ok-clause-firm g c = firm_trans _ _ _ (g.met.V.Volume.passes_keeps _ 
 pub returns-in-Ok-clause-count : goal.returns-in-Ok-clause-count
 returns-in-Ok-clause-count g c = c.store_run.ensures.count ∙ c.end_words.ensures.looks.count
 
-pub returns-in-Ok-clause-idle : goal.returns-in-Ok-clause-idle
-returns-in-Ok-clause-idle g c = c.store_run.ensures.idle
-
-pub returns-in-Ok-clause-sound : goal.returns-in-Ok-clause-sound
-returns-in-Ok-clause-sound g c = c.store_run.ensures.sound
-
-pub returns-in-Err-Fault-clause-ok : goal.returns-in-Err-Fault-clause-ok
-returns-in-Err-Fault-clause-ok g c = tt
-
 pub returns-in-Err-Fault-clause-firm : goal.returns-in-Err-Fault-clause-firm
 returns-in-Err-Fault-clause-firm g c = firm_trans _ _ _ (g.met.V.Volume.passes_keeps _ _ c.end_words.ensures.passes).firm c.store_run.ensures.firm
 
 pub returns-in-Err-Fault-clause-count : goal.returns-in-Err-Fault-clause-count
 returns-in-Err-Fault-clause-count g c = c.store_run.ensures.count ∙ c.end_words.ensures.looks.count
-
-pub returns-in-Err-Fault-clause-idle : goal.returns-in-Err-Fault-clause-idle
-returns-in-Err-Fault-clause-idle g c = c.store_run.ensures.idle
-
-pub returns-in-Err-Fault-clause-sound : goal.returns-in-Err-Fault-clause-sound
-returns-in-Err-Fault-clause-sound g c = c.store_run.ensures.sound
-
-pub returns-in-Err-Stopped-clause-ok : goal.returns-in-Err-Stopped-clause-ok
-returns-in-Err-Stopped-clause-ok g c = tt
 
 pub returns-in-Err-Stopped-clause-fault : goal.returns-in-Err-Stopped-clause-fault
 returns-in-Err-Stopped-clause-fault g c = λ k is. absurd (stop_told k is)
@@ -86,30 +62,6 @@ returns-in-Err-Stopped-clause-firm g c = firm_trans _ _ _ (g.met.V.Volume.passes
 
 pub returns-in-Err-Stopped-clause-count : goal.returns-in-Err-Stopped-clause-count
 returns-in-Err-Stopped-clause-count g c = c.store_run.ensures.count ∙ c.end_words.ensures.looks.count
-
-pub returns-in-Err-Stopped-clause-idle : goal.returns-in-Err-Stopped-clause-idle
-returns-in-Err-Stopped-clause-idle g c = c.store_run.ensures.idle
-
-pub returns-in-Err-Stopped-clause-sound : goal.returns-in-Err-Stopped-clause-sound
-returns-in-Err-Stopped-clause-sound g c = c.store_run.ensures.sound
-
-pub end_words-requires-clause-sound : goal.end_words-requires-clause-sound
-end_words-requires-clause-sound g c = c.requires.sound
-
-pub end_words-requires-clause-block : goal.end_words-requires-clause-block
-end_words-requires-clause-block g c = c.requires.block
-
-pub end_words-requires-clause-name : goal.end_words-requires-clause-name
-end_words-requires-clause-name g c = c.requires.name
-
-pub end_words-requires-clause-some : goal.end_words-requires-clause-some
-end_words-requires-clause-some g c = c.requires.some
-
-pub end_words-requires-clause-within : goal.end_words-requires-clause-within
-end_words-requires-clause-within g c = c.requires.within
-
-pub store_run-requires-clause-sound : goal.store_run-requires-clause-sound
-store_run-requires-clause-sound g c = c.end_words.ensures.sound
 
 pub store_run-requires-clause-name : goal.store_run-requires-clause-name
 store_run-requires-clause-name g c = can_name_on _ _ _ _ c.requires.name c.end_words.ensures.caches
@@ -162,20 +114,8 @@ returns-in-Err-Fault-clause-ends g c = ends_by_after _ _ _ _ _ c.end_words.ensur
 pub returns-in-Err-Stopped-clause-ends : goal.returns-in-Err-Stopped-clause-ends
 returns-in-Err-Stopped-clause-ends g c = ends_by_after _ _ _ _ _ c.end_words.ensures.ends.later c.in_ok-first.ensures.ends.cause (run_stop _ _ _ c.in-Err-Stopped.field-0-is c.in-Err-Stopped.ensures.ends)
 
-pub fill_words-requires-clause-some : goal.fill_words-requires-clause-some
-fill_words-requires-clause-some g c = c.requires.some
-
-pub fill_words-requires-clause-within : goal.fill_words-requires-clause-within
-fill_words-requires-clause-within g c = c.requires.within
-
-pub fill_words-requires-clause-room : goal.fill_words-requires-clause-room
-fill_words-requires-clause-room g c = c.requires.room
-
 pub store_run-requires-clause-place : goal.store_run-requires-clause-place
 store_run-requires-clause-place g c = record { block = subst (λ n. c.args.b.0 < n) (sym c.end_words.ensures.looks.count) c.requires.block; within = omega (arith, c.requires.some, c.requires.within, c.requires.room, c.fill_words.ensures.len) }
-
-pub stored_bytes-requires-clause-within : goal.stored_bytes-requires-clause-within
-stored_bytes-requires-clause-within g c = c.requires.within
 
 pub stored_bytes-requires-clause-few : goal.stored_bytes-requires-clause-few
 stored_bytes-requires-clause-few g c = let few = told_few (Unit {0}) _ _ _ _ c.in-Err-Fault.ensures.fault c.in-Err-Fault.field-0-is in omega (arith, few, c.requires.some, c.requires.within, c.requires.room, c.fill_words.ensures.len)

@@ -48,12 +48,6 @@ loop-at-preserved g c =
       sound = c.push_page.ensures.sound;
     }
 
-pub push_page-requires-clause-sound : goal.push_page-requires-clause-sound
-push_page-requires-clause-sound g c = c.loop-at.invariant.sound
-
-pub push_page-requires-clause-shape : goal.push_page-requires-clause-shape
-push_page-requires-clause-shape g c = c.loop-at.invariant.looks.still.has_shape
-
 pub push_page-requires-clause-mapped : goal.push_page-requires-clause-mapped
 push_page-requires-clause-mapped g c = subst (λ f. IsMapped c.args.shape.now f) (sym c.loop-at.invariant.looks.looks.words) c.requires.mapped
 
@@ -75,23 +69,11 @@ push_page-requires-clause-within g c = omega (arith, c.min-to.ensures, c.loop-at
 pub returns-clause-ends : goal.returns-clause-ends
 returns-clause-ends g c = ends_read_ok _ _ _ c.loop-at.invariant.later c.loop-at.invariant.running
 
-pub returns-clause-looks : goal.returns-clause-looks
-returns-clause-looks g c = c.loop-at.invariant.looks
-
-pub returns-clause-passes : goal.returns-clause-passes
-returns-clause-passes g c = c.loop-at.invariant.passes
-
-pub returns-clause-sound : goal.returns-clause-sound
-returns-clause-sound g c = c.loop-at.invariant.sound
-
 pub returns-in_err-push_page-clause-ends : goal.returns-in_err-push_page-clause-ends
 returns-in_err-push_page-clause-ends g c = let p = err_from_is_err_and c.from_residual.result c.from_residual.ensures.1 in ends_by_after _ _ _ _ _ c.loop-at.invariant.later c.loop-at.invariant.running (ends_read _ _ c.push_page.result c.from_residual.result _ p.0 c.in_err-push_page.was p.1 p.2 c.push_page.ensures.ends)
 
 pub returns-in_err-push_page-clause-passes : goal.returns-in_err-push_page-clause-passes
 returns-in_err-push_page-clause-passes g c = g.met.V.Blocks.passes_trans _ _ _ c.loop-at.invariant.passes c.push_page.ensures.passes
-
-pub returns-in_err-push_page-clause-sound : goal.returns-in_err-push_page-clause-sound
-returns-in_err-push_page-clause-sound g c = c.push_page.ensures.sound
 
 pub returns-in_err-push_page-clause-value : goal.returns-in_err-push_page-clause-value
 returns-in_err-push_page-clause-value g c = if_err c.from_residual.result _ c.from_residual.ensures.0

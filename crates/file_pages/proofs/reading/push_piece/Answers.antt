@@ -13,50 +13,14 @@ returns-in-Some-clause-bytes g c = c.in_ok-push_bytes.ensures ∙ ap (λ bs. c.a
 pub returns-in_err-word-clause-bytes : goal.returns-in_err-word-clause-bytes
 returns-in_err-word-clause-bytes g c = if_err c.from_residual.result _ c.from_residual.ensures.0
 
-pub returns-in_err-word-clause-looks : goal.returns-in_err-word-clause-looks
-returns-in_err-word-clause-looks g c = c.word.ensures.looks
-
-pub returns-in_err-word-clause-caches : goal.returns-in_err-word-clause-caches
-returns-in_err-word-clause-caches g c = c.word.ensures.caches
-
-pub returns-in_err-word-clause-passes : goal.returns-in_err-word-clause-passes
-returns-in_err-word-clause-passes g c = c.word.ensures.passes
-
-pub returns-in_err-word-clause-sound : goal.returns-in_err-word-clause-sound
-returns-in_err-word-clause-sound g c = c.word.ensures.sound
-
 pub returns-in_err-word-clause-ends : goal.returns-in_err-word-clause-ends
 returns-in_err-word-clause-ends g c = let p = err_from_is_err_and c.from_residual.result c.from_residual.ensures.1 in ends_vol_read _ _ c.word.result c.from_residual.result _ p.0 c.in_err-word.was p.1 p.2 c.word.ensures.ends
 
 pub returns-in_err-push_bytes-clause-bytes : goal.returns-in_err-push_bytes-clause-bytes
 returns-in_err-push_bytes-clause-bytes g c = if_err c.from_residual-in_err-push_bytes.result _ c.from_residual-in_err-push_bytes.ensures.0
 
-pub returns-in_err-push_bytes-clause-looks : goal.returns-in_err-push_bytes-clause-looks
-returns-in_err-push_bytes-clause-looks g c = c.word.ensures.looks
-
-pub returns-in_err-push_bytes-clause-caches : goal.returns-in_err-push_bytes-clause-caches
-returns-in_err-push_bytes-clause-caches g c = c.word.ensures.caches
-
-pub returns-in_err-push_bytes-clause-passes : goal.returns-in_err-push_bytes-clause-passes
-returns-in_err-push_bytes-clause-passes g c = c.word.ensures.passes
-
-pub returns-in_err-push_bytes-clause-sound : goal.returns-in_err-push_bytes-clause-sound
-returns-in_err-push_bytes-clause-sound g c = c.word.ensures.sound
-
 pub returns-in_err-push_bytes-clause-ends : goal.returns-in_err-push_bytes-clause-ends
 returns-in_err-push_bytes-clause-ends g c = let p = err_from_is_err_and c.from_residual-in_err-push_bytes.result c.from_residual-in_err-push_bytes.ensures.1 in ends_read_memory _ _ c.from_residual-in_err-push_bytes.result p.0 p.1 p.2 c.word.ensures.ends.later c.in_ok-word.ensures.ends.cause
-
-pub returns-in-Some-clause-looks : goal.returns-in-Some-clause-looks
-returns-in-Some-clause-looks g c = c.word.ensures.looks
-
-pub returns-in-Some-clause-caches : goal.returns-in-Some-clause-caches
-returns-in-Some-clause-caches g c = c.word.ensures.caches
-
-pub returns-in-Some-clause-passes : goal.returns-in-Some-clause-passes
-returns-in-Some-clause-passes g c = c.word.ensures.passes
-
-pub returns-in-Some-clause-sound : goal.returns-in-Some-clause-sound
-returns-in-Some-clause-sound g c = c.word.ensures.sound
 
 pub returns-in-Some-clause-ends : goal.returns-in-Some-clause-ends
 returns-in-Some-clause-ends g c = ends_read_ok _ _ _ c.word.ensures.ends.later c.in_ok-word.ensures.ends.cause
@@ -76,32 +40,11 @@ returns-clause-passes g c = g.met.V.Blocks.passes_trans _ _ _ c.word.ensures.pas
 pub returns-clause-ends : goal.returns-clause-ends
 returns-clause-ends g c = ends_by_after _ _ _ _ _ c.word.ensures.ends.later c.in_ok-word.ensures.ends.cause c.push_copy.ensures.ends
 
-pub returns-clause-sound : goal.returns-clause-sound
-returns-clause-sound g c = c.push_copy.ensures.sound
-
-pub word-requires-clause-sound : goal.word-requires-clause-sound
-word-requires-clause-sound g c = c.requires.sound
-
-pub word-requires-clause-name : goal.word-requires-clause-name
-word-requires-clause-name g c = c.requires.name
-
-pub page-requires-clause-sound : goal.page-requires-clause-sound
-page-requires-clause-sound g c = c.word.ensures.sound
-
-pub push_copy-requires-clause-sound : goal.push_copy-requires-clause-sound
-push_copy-requires-clause-sound g c = c.word.ensures.sound
-
 pub push_copy-requires-clause-name : goal.push_copy-requires-clause-name
 push_copy-requires-clause-name g c = can_name_on _ _ _ _ c.requires.name c.word.ensures.caches
 
 pub push_copy-requires-clause-block : goal.push_copy-requires-clause-block
 push_copy-requires-clause-block g c = subst (λ (n : ℕ). c.args.b.0 < n) (sym c.word.ensures.looks.count) c.requires.block
-
-pub push_copy-requires-clause-order : goal.push_copy-requires-clause-order
-push_copy-requires-clause-order g c = c.requires.order
-
-pub push_copy-requires-clause-within : goal.push_copy-requires-clause-within
-push_copy-requires-clause-within g c = c.requires.within
 
 pub page-requires-clause-block : goal.page-requires-clause-block
 page-requires-clause-block g c = subst (λ (n : ℕ). c.args.b.0 < n) (sym c.word.ensures.looks.count) c.requires.block

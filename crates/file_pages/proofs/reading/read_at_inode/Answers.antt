@@ -28,33 +28,6 @@ returns-clause-value g c =
     ∙ read_value (byte_in (word_in x.words n)) n.size c.args.off c.args.len c.min-end.result (omega (arith, c.min-end.ensures, c.saturating_add.ensures, c.requires.inode.size, most))
     ∙ ap (λ bs. take c.args.len (drop c.args.off bs)) (sym (file_node shape x.words i ino ∙ bytes_sized x.words n (omega (arith, kind))))) c.read_bytes.ensures.value
 
-pub returns-clause-looks : goal.returns-clause-looks
-returns-clause-looks g c = c.read_bytes.ensures.looks.looks
-
-pub returns-clause-passes : goal.returns-clause-passes
-returns-clause-passes g c = c.read_bytes.ensures.passes
-
-pub returns-clause-ends : goal.returns-clause-ends
-returns-clause-ends g c = c.read_bytes.ensures.ends
-
-pub returns-clause-sound : goal.returns-clause-sound
-returns-clause-sound g c = c.read_bytes.ensures.sound
-
-pub read_bytes-requires-clause-sound : goal.read_bytes-requires-clause-sound
-read_bytes-requires-clause-sound g c = c.requires.sound
-
-pub read_bytes-requires-clause-shape : goal.read_bytes-requires-clause-shape
-read_bytes-requires-clause-shape g c = c.requires.shape
-
-pub read_bytes-requires-clause-mapped : goal.read_bytes-requires-clause-mapped
-read_bytes-requires-clause-mapped g c = c.requires.mapped
-
-pub read_bytes-requires-clause-named : goal.read_bytes-requires-clause-named
-read_bytes-requires-clause-named g c = c.requires.named
-
-pub read_bytes-requires-clause-inode : goal.read_bytes-requires-clause-inode
-read_bytes-requires-clause-inode g c = c.requires.inode
-
 pub read_bytes-requires-clause-within : goal.read_bytes-requires-clause-within
 read_bytes-requires-clause-within g c = omega (arith, c.min-end.ensures)
 

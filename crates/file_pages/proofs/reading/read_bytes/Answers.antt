@@ -36,41 +36,8 @@ returns-in_err-push_pages-clause-looks g c = look_trans _ _ _ _ c.page_blocks.en
 pub returns-clause-looks : goal.returns-clause-looks
 returns-clause-looks g c = look_trans _ _ _ _ c.page_blocks.ensures.looks c.push_pages.ensures.looks
 
-pub page_blocks-requires-clause-sound : goal.page_blocks-requires-clause-sound
-page_blocks-requires-clause-sound g c = c.requires.sound
-
-pub page_blocks-requires-clause-ino : goal.page_blocks-requires-clause-ino
-page_blocks-requires-clause-ino g c = c.requires.ino
-
 pub page_blocks-requires-clause-can : goal.page_blocks-requires-clause-can
 page_blocks-requires-clause-can g c = can_look_up c.args.shape.now _ c.requires.shape c.requires.mapped c.requires.named
-
-pub push_pages-requires-clause-ino : goal.push_pages-requires-clause-ino
-push_pages-requires-clause-ino g c = c.requires.ino
-
-pub push_pages-requires-clause-most : goal.push_pages-requires-clause-most
-push_pages-requires-clause-most g c = c.requires.most
-
-pub push_pages-requires-clause-within : goal.push_pages-requires-clause-within
-push_pages-requires-clause-within g c = c.requires.within
-
-pub push_pages-requires-clause-sound : goal.push_pages-requires-clause-sound
-push_pages-requires-clause-sound g c = c.page_blocks.ensures.sound
-
-pub returns-in_err-out-clause-sound : goal.returns-in_err-out-clause-sound
-returns-in_err-out-clause-sound g c = c.requires.sound
-
-pub returns-then-off-end-clause-sound : goal.returns-then-off-end-clause-sound
-returns-then-off-end-clause-sound g c = c.requires.sound
-
-pub returns-in_err-blocks-clause-looks : goal.returns-in_err-blocks-clause-looks
-returns-in_err-blocks-clause-looks g c = c.page_blocks.ensures.looks
-
-pub returns-in_err-blocks-clause-passes : goal.returns-in_err-blocks-clause-passes
-returns-in_err-blocks-clause-passes g c = c.page_blocks.ensures.passes
-
-pub returns-in_err-blocks-clause-sound : goal.returns-in_err-blocks-clause-sound
-returns-in_err-blocks-clause-sound g c = c.page_blocks.ensures.sound
 
 pub returns-in_err-blocks-clause-ends : goal.returns-in_err-blocks-clause-ends
 returns-in_err-blocks-clause-ends g c = let p = err_from_is_err_and c.from_residual-in_err-blocks.result c.from_residual-in_err-blocks.ensures.1 in ends_read _ _ _ c.from_residual-in_err-blocks.result _ p.0 c.in_err-blocks.was p.1 p.2 c.page_blocks.ensures.ends
@@ -78,14 +45,8 @@ returns-in_err-blocks-clause-ends g c = let p = err_from_is_err_and c.from_resid
 pub returns-in_err-push_pages-clause-passes : goal.returns-in_err-push_pages-clause-passes
 returns-in_err-push_pages-clause-passes g c = g.met.V.Blocks.passes_trans _ _ _ c.page_blocks.ensures.passes c.push_pages.ensures.passes
 
-pub returns-in_err-push_pages-clause-sound : goal.returns-in_err-push_pages-clause-sound
-returns-in_err-push_pages-clause-sound g c = c.push_pages.ensures.sound
-
 pub returns-clause-passes : goal.returns-clause-passes
 returns-clause-passes g c = g.met.V.Blocks.passes_trans _ _ _ c.page_blocks.ensures.passes c.push_pages.ensures.passes
-
-pub returns-clause-sound : goal.returns-clause-sound
-returns-clause-sound g c = c.push_pages.ensures.sound
 
 pub returns-in_err-push_pages-clause-ends : goal.returns-in_err-push_pages-clause-ends
 returns-in_err-push_pages-clause-ends g c = let p = err_from_is_err_and c.from_residual-in_err-push_pages.result c.from_residual-in_err-push_pages.ensures.1 in ends_by_after _ _ _ _ _ c.page_blocks.ensures.ends.later (read_runs _ _ _ c.in_ok-blocks.ensures.ends) (ends_read _ _ _ c.from_residual-in_err-push_pages.result _ p.0 c.in_err-push_pages.was p.1 p.2 c.push_pages.ensures.ends)
@@ -121,44 +82,11 @@ returns-then-off-end-clause-looks g c = look_refl c.args.shape.now _ (can_look_u
 pub returns-then-off-end-clause-passes : goal.returns-then-off-end-clause-passes
 returns-then-off-end-clause-passes g c = g.met.V.Blocks.passes_refl _
 
-pub returns-in-Some-clause-ends : goal.returns-in-Some-clause-ends
-returns-in-Some-clause-ends g c = c.read_in_page.ensures.ends
-
-pub returns-in-Some-clause-looks : goal.returns-in-Some-clause-looks
-returns-in-Some-clause-looks g c = c.read_in_page.ensures.looks
-
-pub returns-in-Some-clause-passes : goal.returns-in-Some-clause-passes
-returns-in-Some-clause-passes g c = c.read_in_page.ensures.passes
-
-pub returns-in-Some-clause-sound : goal.returns-in-Some-clause-sound
-returns-in-Some-clause-sound g c = c.read_in_page.ensures.sound
-
 pub returns-in_err-blocks-clause-value : goal.returns-in_err-blocks-clause-value
 returns-in_err-blocks-clause-value g c = if_err c.from_residual-in_err-blocks.result _ c.from_residual-in_err-blocks.ensures.0
 
 pub returns-in_err-push_pages-clause-value : goal.returns-in_err-push_pages-clause-value
 returns-in_err-push_pages-clause-value g c = if_err c.from_residual-in_err-push_pages.result _ c.from_residual-in_err-push_pages.ensures.0
-
-pub read_in_page-requires-clause-sound : goal.read_in_page-requires-clause-sound
-read_in_page-requires-clause-sound g c = c.requires.sound
-
-pub read_in_page-requires-clause-shape : goal.read_in_page-requires-clause-shape
-read_in_page-requires-clause-shape g c = c.requires.shape
-
-pub read_in_page-requires-clause-mapped : goal.read_in_page-requires-clause-mapped
-read_in_page-requires-clause-mapped g c = c.requires.mapped
-
-pub read_in_page-requires-clause-named : goal.read_in_page-requires-clause-named
-read_in_page-requires-clause-named g c = c.requires.named
-
-pub read_in_page-requires-clause-file : goal.read_in_page-requires-clause-file
-read_in_page-requires-clause-file g c = c.requires.file
-
-pub read_in_page-requires-clause-within : goal.read_in_page-requires-clause-within
-read_in_page-requires-clause-within g c = c.requires.within
-
-pub push_pages-requires-clause-shape : goal.push_pages-requires-clause-shape
-push_pages-requires-clause-shape g c = c.page_blocks.ensures.looks.still.has_shape
 
 pub page_blocks-requires-clause-inode : goal.page_blocks-requires-clause-inode
 page_blocks-requires-clause-inode g c = inl (c.requires.inode, omega (arith, c.requires.inode.kind, c.requires.file))
@@ -183,6 +111,3 @@ read_in_page-requires-clause-size g c = sym c.requires.inode.size
 
 pub read_in_page-requires-clause-order : goal.read_in_page-requires-clause-order
 read_in_page-requires-clause-order g c = omega (arith, c.if-off-end.false)
-
-pub returns-in-Some-clause-value : goal.returns-in-Some-clause-value
-returns-in-Some-clause-value g c = c.read_in_page.ensures.value

@@ -4,30 +4,6 @@ use Rattle.node_pages.proofs.EndsOn.{if_err}
 use Rattle.node_pages.proofs.LookingUpRules.{can_look_up, look_refl}
 use Rattle.file_pages.proofs.reading.read_in_page.Goals as goal
 
-pub push_page-requires-clause-sound : goal.push_page-requires-clause-sound
-push_page-requires-clause-sound g c = c.requires.sound
-
-pub push_page-requires-clause-shape : goal.push_page-requires-clause-shape
-push_page-requires-clause-shape g c = c.requires.shape
-
-pub push_page-requires-clause-mapped : goal.push_page-requires-clause-mapped
-push_page-requires-clause-mapped g c = c.requires.mapped
-
-pub push_page-requires-clause-named : goal.push_page-requires-clause-named
-push_page-requires-clause-named g c = c.requires.named
-
-pub push_page-requires-clause-owns : goal.push_page-requires-clause-owns
-push_page-requires-clause-owns g c = c.requires.owns
-
-pub push_page-requires-clause-block : goal.push_page-requires-clause-block
-push_page-requires-clause-block g c = c.requires.block
-
-pub push_page-requires-clause-file : goal.push_page-requires-clause-file
-push_page-requires-clause-file g c = c.requires.file
-
-pub push_page-requires-clause-size : goal.push_page-requires-clause-size
-push_page-requires-clause-size g c = c.requires.size
-
 pub push_page-requires-clause-order : goal.push_page-requires-clause-order
 push_page-requires-clause-order g c = omega (arith, c.requires.order, c.requires.from)
 
@@ -46,9 +22,6 @@ returns-in_err-out-clause-looks g c = look_refl c.args.shape.now _ (can_look_up 
 pub returns-in_err-out-clause-passes : goal.returns-in_err-out-clause-passes
 returns-in_err-out-clause-passes g c = g.met.V.Blocks.passes_refl _
 
-pub returns-in_err-out-clause-sound : goal.returns-in_err-out-clause-sound
-returns-in_err-out-clause-sound g c = c.requires.sound
-
 pub returns-in_err-out-clause-value : goal.returns-in_err-out-clause-value
 returns-in_err-out-clause-value g c = if_err c.from_residual.result _ c.from_residual.ensures.0
 
@@ -57,24 +30,6 @@ returns-in_err-push_page-clause-ends g c = let p = err_from_is_err_and c.from_re
 
 pub returns-in_err-push_page-clause-value : goal.returns-in_err-push_page-clause-value
 returns-in_err-push_page-clause-value g c = if_err c.from_residual-in_err-push_page.result _ c.from_residual-in_err-push_page.ensures.0
-
-pub returns-in_err-push_page-clause-looks : goal.returns-in_err-push_page-clause-looks
-returns-in_err-push_page-clause-looks g c = c.push_page.ensures.looks
-
-pub returns-clause-looks : goal.returns-clause-looks
-returns-clause-looks g c = c.push_page.ensures.looks
-
-pub returns-in_err-push_page-clause-passes : goal.returns-in_err-push_page-clause-passes
-returns-in_err-push_page-clause-passes g c = c.push_page.ensures.passes
-
-pub returns-clause-passes : goal.returns-clause-passes
-returns-clause-passes g c = c.push_page.ensures.passes
-
-pub returns-in_err-push_page-clause-sound : goal.returns-in_err-push_page-clause-sound
-returns-in_err-push_page-clause-sound g c = c.push_page.ensures.sound
-
-pub returns-clause-sound : goal.returns-clause-sound
-returns-clause-sound g c = c.push_page.ensures.sound
 
 pub returns-clause-ends : goal.returns-clause-ends
 returns-clause-ends g c = ends_read_on _ _ _ _ c.in_ok-push_page.ensures.ends

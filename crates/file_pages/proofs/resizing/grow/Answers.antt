@@ -259,53 +259,11 @@ pub returns-clause-goes : goal.returns-clause-goes
 returns-clause-goes g c =
     (g.met.V.Volume.passes_keeps _ _ c.take_lowest.ensures.passes).goes then c.plan_growth.ensures.goes then c.clear_tail.ensures.goes then c.commit_change.ensures.goes
 
-pub returns-in_err-taken-clause-sound : goal.returns-in_err-taken-clause-sound
-returns-in_err-taken-clause-sound g c = c.take_lowest.ensures.sound
-
-pub returns-in_err-change-clause-sound : goal.returns-in_err-change-clause-sound
-returns-in_err-change-clause-sound g c = c.plan_growth.ensures.sound
-
-pub returns-in_err-clear_tail-clause-sound : goal.returns-in_err-clear_tail-clause-sound
-returns-in_err-clear_tail-clause-sound g c = c.clear_tail.ensures.sound
-
-pub returns-clause-sound : goal.returns-clause-sound
-returns-clause-sound g c = c.commit_change.ensures.sound
-
 pub returns-in_err-change-clause-ends : goal.returns-in_err-change-clause-ends
 returns-in_err-change-clause-ends g c = let p = err_from_is_err_and c.from_residual-in_err-change.result c.from_residual-in_err-change.ensures.1 in size_then _ _ _ c.take_lowest.result _ _ c.in_ok-taken.was c.take_lowest.ensures.ends (size_err _ _ _ c.from_residual-in_err-change.result _ _ c.in_err-change.was p.1 p.2 c.plan_growth.ensures.ends)
 
 pub returns-in_err-clear_tail-clause-ends : goal.returns-in_err-clear_tail-clause-ends
 returns-in_err-clear_tail-clause-ends g c = let p = err_from_is_err_and c.from_residual-in_err-clear_tail.result c.from_residual-in_err-clear_tail.ensures.1 in size_then _ _ _ c.take_lowest.result _ _ c.in_ok-taken.was c.take_lowest.ensures.ends (size_then _ _ _ c.plan_growth.result _ _ c.in_ok-change.was c.plan_growth.ensures.ends (ends_vol_size _ _ _ c.from_residual-in_err-clear_tail.result _ p.0 c.in_err-clear_tail.was p.1 p.2 c.clear_tail.ensures.ends))
-
-pub take_lowest-requires-clause-sound : goal.take_lowest-requires-clause-sound
-take_lowest-requires-clause-sound g c = c.requires.sound
-
-pub take_lowest-requires-clause-ready : goal.take_lowest-requires-clause-ready
-take_lowest-requires-clause-ready g c = c.requires.ready
-
-pub plan_growth-requires-clause-sound : goal.plan_growth-requires-clause-sound
-plan_growth-requires-clause-sound g c = c.take_lowest.ensures.sound
-
-pub plan_growth-requires-clause-ino : goal.plan_growth-requires-clause-ino
-plan_growth-requires-clause-ino g c = c.requires.ino
-
-pub plan_growth-requires-clause-grows : goal.plan_growth-requires-clause-grows
-plan_growth-requires-clause-grows g c = c.requires.grows
-
-pub plan_growth-requires-clause-apart : goal.plan_growth-requires-clause-apart
-plan_growth-requires-clause-apart g c = c.in_ok-taken.ensures.apart
-
-pub clear_tail-requires-clause-sound : goal.clear_tail-requires-clause-sound
-clear_tail-requires-clause-sound g c = c.plan_growth.ensures.sound
-
-pub clear_tail-requires-clause-ino : goal.clear_tail-requires-clause-ino
-clear_tail-requires-clause-ino g c = c.requires.ino
-
-pub commit_change-requires-clause-sound : goal.commit_change-requires-clause-sound
-commit_change-requires-clause-sound g c = c.clear_tail.ensures.sound
-
-pub commit_change-requires-clause-ino : goal.commit_change-requires-clause-ino
-commit_change-requires-clause-ino g c = c.requires.ino
 
 pub returns-clause-ends : goal.returns-clause-ends
 returns-clause-ends g c = size_then _ _ _ c.take_lowest.result _ _ c.in_ok-taken.was c.take_lowest.ensures.ends (size_then _ _ _ c.plan_growth.result _ _ c.in_ok-change.was c.plan_growth.ensures.ends (ends_by_after _ _ _ _ _ c.clear_tail.ensures.ends.later c.in_ok-clear_tail.ensures.ends.cause c.commit_change.ensures.ends))
@@ -339,12 +297,6 @@ returns-in_err-clear_tail-clause-no_space g c = let p = err_from_is_err_and c.fr
 
 pub returns-in_err-clear_tail-clause-small : goal.returns-in_err-clear_tail-clause-small
 returns-in_err-clear_tail-clause-small g c = let p = err_from_is_err_and c.from_residual-in_err-clear_tail.result c.from_residual-in_err-clear_tail.ensures.1 in λ is. (unrefused_vol c.from_residual-in_err-clear_tail.result _ p.0 p.1 p.2).1 is
-
-pub wanted_count-wanted-requires-clause-grows : goal.wanted_count-wanted-requires-clause-grows
-wanted_count-wanted-requires-clause-grows g c = c.requires.grows
-
-pub wanted_count-wanted-requires-clause-most : goal.wanted_count-wanted-requires-clause-most
-wanted_count-wanted-requires-clause-most g c = c.requires.most
 
 pub plan_growth-requires-clause-count : goal.plan_growth-requires-clause-count
 plan_growth-requires-clause-count g c = c.in_ok-taken.ensures.count ∙ c.wanted_count-wanted.ensures.wanted
@@ -382,15 +334,6 @@ clear_tail-requires-clause-size g c =
     let j = g.V.Volume.kept c.plan_growth.new.v in
     let leaves : LeavesInUse (volume_layout shape x.words) x k y j = leaves_trans shape x k (g.V.Blocks.seen c.take_lowest.new.v) (g.V.Volume.kept c.take_lowest.new.v) y j c.requires.ready looked c.plan_growth.ensures.leaves in
     (file_left shape x k y j i given c.requires.ino c.requires.ready c.requires.inode c.requires.file leaves).1
-
-pub clear_tail-requires-clause-grows : goal.clear_tail-requires-clause-grows
-clear_tail-requires-clause-grows g c = c.requires.grows
-
-pub commit_change-requires-clause-shape : goal.commit_change-requires-clause-shape
-commit_change-requires-clause-shape g c = c.clear_tail.ensures.stores.ready.order.has_shape
-
-pub commit_change-requires-clause-idle : goal.commit_change-requires-clause-idle
-commit_change-requires-clause-idle g c = c.clear_tail.ensures.stores.ready.idle
 
 pub plan_growth-requires-clause-fits : goal.plan_growth-requires-clause-fits
 plan_growth-requires-clause-fits g c = file_fits _ _ c.requires.file c.requires.most

@@ -11,15 +11,6 @@ use Rattle.node_pages.specs.Forgetting.{Forgets}
 use Rattle.file_pages.proofs.Resized.{file_ino, size_fault, size_stopped}
 use Rattle.file_pages.proofs.resizing.resize.Goals as goal
 
-pub returns-then-len-gt-LARGEST_SIZE-clause-ok : goal.returns-then-len-gt-LARGEST_SIZE-clause-ok
-returns-then-len-gt-LARGEST_SIZE-clause-ok g c = tt
-
-pub returns-then-len-gt-LARGEST_SIZE-clause-space : goal.returns-then-len-gt-LARGEST_SIZE-clause-space
-returns-then-len-gt-LARGEST_SIZE-clause-space g c = tt
-
-pub returns-then-len-gt-LARGEST_SIZE-clause-forgets : goal.returns-then-len-gt-LARGEST_SIZE-clause-forgets
-returns-then-len-gt-LARGEST_SIZE-clause-forgets g c = tt
-
 pub returns-then-len-gt-LARGEST_SIZE-clause-too_large : goal.returns-then-len-gt-LARGEST_SIZE-clause-too_large
 returns-then-len-gt-LARGEST_SIZE-clause-too_large g c = λ is. omega (arith, c.if-len-gt-LARGEST_SIZE.true)
 
@@ -44,20 +35,11 @@ returns-then-len-gt-LARGEST_SIZE-clause-goes g c = goes_refl _ _
 pub returns-then-len-gt-LARGEST_SIZE-clause-ends : goal.returns-then-len-gt-LARGEST_SIZE-clause-ends
 returns-then-len-gt-LARGEST_SIZE-clause-ends g c = refused_still _
 
-pub returns-then-len-gt-LARGEST_SIZE-clause-sound : goal.returns-then-len-gt-LARGEST_SIZE-clause-sound
-returns-then-len-gt-LARGEST_SIZE-clause-sound g c = c.requires.sound
-
-pub look_inode-requires-clause-sound : goal.look_inode-requires-clause-sound
-look_inode-requires-clause-sound g c = c.requires.sound
-
 pub look_inode-requires-clause-ino : goal.look_inode-requires-clause-ino
 look_inode-requires-clause-ino g c = file_ino c.args.shape.now (g.V.Blocks.seen c.args.v.now).words c.args.i.0 c.requires.file
 
 pub look_inode-requires-clause-can : goal.look_inode-requires-clause-can
 look_inode-requires-clause-can g c = can_look_up c.args.shape.now _ c.requires.ready.order.has_shape c.requires.ready.order.mapped c.requires.ready.order.named
-
-pub resize_at_inode-requires-clause-sound : goal.resize_at_inode-requires-clause-sound
-resize_at_inode-requires-clause-sound g c = c.look_inode.ensures.sound
 
 pub resize_at_inode-requires-clause-ready : goal.resize_at_inode-requires-clause-ready
 resize_at_inode-requires-clause-ready g c =
@@ -144,17 +126,11 @@ returns-in_err-inode-clause-goes g c = (g.met.V.Volume.passes_keeps _ _ c.look_i
 pub returns-in_err-inode-clause-ends : goal.returns-in_err-inode-clause-ends
 returns-in_err-inode-clause-ends g c = let p = err_from_is_err_and c.from_residual.result c.from_residual.ensures.1 in ends_vol_size _ _ _ c.from_residual.result _ p.0 c.in_err-inode.was p.1 p.2 c.look_inode.ensures.ends
 
-pub returns-in_err-inode-clause-sound : goal.returns-in_err-inode-clause-sound
-returns-in_err-inode-clause-sound g c = c.look_inode.ensures.sound
-
 pub returns-clause-ok : goal.returns-clause-ok
 returns-clause-ok g c = subst (λ f. OnOk c.resize_at_inode.result (SetsBoth c.args.shape.now f (g.V.Blocks.seen c.resize_at_inode.new.v) (g.V.Volume.kept c.resize_at_inode.new.v) c.args.i.0 (resized (file_bytes c.args.shape.now f c.args.i.0) c.args.len))) c.look_inode.ensures.looks.looks.words c.resize_at_inode.ensures.ok
 
 pub returns-clause-space : goal.returns-clause-space
 returns-clause-space g c = subst (λ f. OnOk c.resize_at_inode.result (HasSpace c.args.shape.now f (length (file_bytes c.args.shape.now f c.args.i.0)) c.args.len)) c.look_inode.ensures.looks.looks.words c.resize_at_inode.ensures.space
-
-pub returns-clause-too_large : goal.returns-clause-too_large
-returns-clause-too_large g c = c.resize_at_inode.ensures.too_large
 
 pub returns-clause-no_space : goal.returns-clause-no_space
 returns-clause-no_space g c = λ is. subst (λ f. (c.args.len ≤ largest_size) × (length (free_blocks c.args.shape.now f) < wanted_blocks (length (file_bytes c.args.shape.now f c.args.i.0)) c.args.len)) c.look_inode.ensures.looks.looks.words (c.resize_at_inode.ensures.no_space is)
@@ -175,9 +151,6 @@ returns-clause-fault g c = λ is. subst (λ f. SetsBoth c.args.shape.now f (g.V.
 pub returns-clause-stopped : goal.returns-clause-stopped
 returns-clause-stopped g c = λ is. subst (λ f. StopsAs c.args.shape.now f (g.V.Blocks.seen c.resize_at_inode.new.v) (g.V.Volume.kept c.resize_at_inode.new.v) c.args.i.0 (ResizeStops c.args.shape.now f c.args.i.0 c.args.len)) c.look_inode.ensures.looks.looks.words (c.resize_at_inode.ensures.stopped is)
 
-pub returns-clause-ready : goal.returns-clause-ready
-returns-clause-ready g c = c.resize_at_inode.ensures.ready
-
 pub returns-clause-forgets : goal.returns-clause-forgets
 returns-clause-forgets g c = subst (λ f. OnOk c.resize_at_inode.result (Forgets (volume_layout c.args.shape.now f) (volume_layout c.args.shape.now (g.V.Blocks.seen c.resize_at_inode.new.v).words) (g.V.Blocks.seen c.resize_at_inode.new.v))) c.look_inode.ensures.looks.looks.words c.resize_at_inode.ensures.forgets
 
@@ -186,6 +159,3 @@ returns-clause-goes g c = (g.met.V.Volume.passes_keeps _ _ c.look_inode.ensures.
 
 pub returns-clause-ends : goal.returns-clause-ends
 returns-clause-ends g c = ends_by_after _ _ _ _ _ c.look_inode.ensures.ends.later c.in_ok-inode.ensures.ends.cause c.resize_at_inode.ensures.ends
-
-pub returns-clause-sound : goal.returns-clause-sound
-returns-clause-sound g c = c.resize_at_inode.ensures.sound

@@ -7,9 +7,6 @@ use Rattle.file_pages.specs.Files.{HasSpace, file_bytes}
 use Rattle.file_pages.proofs.Resized.{file_ino, file_placed, file_size, size_fault, size_ok, size_ready, size_refused, size_stopped}
 use Rattle.file_pages.proofs.resizing.resize_at_inode.Goals as goal
 
-pub size_at-requires-clause-inode : goal.size_at-requires-clause-inode
-size_at-requires-clause-inode g c = c.requires.inode
-
 pub returns-clause-too_large : goal.returns-clause-too_large
 returns-clause-too_large g c = λ is. absurd (c.size_at.ensures.small is)
 
@@ -118,15 +115,6 @@ returns-clause-ready g c =
     let call = c.size_at.ensures in
     size_ready shape x k y j i len r c.requires.ready call.leaves
 
-pub returns-then-len-gt-LARGEST_SIZE-clause-ok : goal.returns-then-len-gt-LARGEST_SIZE-clause-ok
-returns-then-len-gt-LARGEST_SIZE-clause-ok g c = tt
-
-pub returns-then-len-gt-LARGEST_SIZE-clause-space : goal.returns-then-len-gt-LARGEST_SIZE-clause-space
-returns-then-len-gt-LARGEST_SIZE-clause-space g c = tt
-
-pub returns-then-len-gt-LARGEST_SIZE-clause-forgets : goal.returns-then-len-gt-LARGEST_SIZE-clause-forgets
-returns-then-len-gt-LARGEST_SIZE-clause-forgets g c = tt
-
 pub returns-then-len-gt-LARGEST_SIZE-clause-too_large : goal.returns-then-len-gt-LARGEST_SIZE-clause-too_large
 returns-then-len-gt-LARGEST_SIZE-clause-too_large g c = λ is. omega (arith, c.if-len-gt-LARGEST_SIZE.true)
 
@@ -150,27 +138,6 @@ returns-then-len-gt-LARGEST_SIZE-clause-goes g c = goes_refl _ _
 
 pub returns-then-len-gt-LARGEST_SIZE-clause-ends : goal.returns-then-len-gt-LARGEST_SIZE-clause-ends
 returns-then-len-gt-LARGEST_SIZE-clause-ends g c = refused_still _
-
-pub returns-then-len-gt-LARGEST_SIZE-clause-sound : goal.returns-then-len-gt-LARGEST_SIZE-clause-sound
-returns-then-len-gt-LARGEST_SIZE-clause-sound g c = c.requires.sound
-
-pub returns-clause-goes : goal.returns-clause-goes
-returns-clause-goes g c = c.size_at.ensures.goes
-
-pub returns-clause-ends : goal.returns-clause-ends
-returns-clause-ends g c = c.size_at.ensures.ends
-
-pub returns-clause-sound : goal.returns-clause-sound
-returns-clause-sound g c = c.size_at.ensures.sound
-
-pub returns-clause-forgets : goal.returns-clause-forgets
-returns-clause-forgets g c = c.size_at.ensures.forgets
-
-pub size_at-requires-clause-sound : goal.size_at-requires-clause-sound
-size_at-requires-clause-sound g c = c.requires.sound
-
-pub size_at-requires-clause-ready : goal.size_at-requires-clause-ready
-size_at-requires-clause-ready g c = c.requires.ready
 
 pub size_at-requires-clause-most : goal.size_at-requires-clause-most
 size_at-requires-clause-most g c = omega (arith, c.if-len-gt-LARGEST_SIZE.false)

@@ -200,35 +200,8 @@ returns-clause-other g c = unrefused_stops c.forget_all.result c.forget_all.ensu
 pub returns-in_err-change-clause-forgets : goal.returns-in_err-change-clause-forgets
 returns-in_err-change-clause-forgets g c = if_err c.from_residual.result _ c.from_residual.ensures.0
 
-pub returns-in_err-change-clause-sound : goal.returns-in_err-change-clause-sound
-returns-in_err-change-clause-sound g c = c.plan_shrink.ensures.sound
-
 pub returns-in_err-commit_change-clause-forgets : goal.returns-in_err-commit_change-clause-forgets
 returns-in_err-commit_change-clause-forgets g c = if_err c.from_residual-in_err-commit_change.result _ c.from_residual-in_err-commit_change.ensures.0
-
-pub returns-in_err-commit_change-clause-sound : goal.returns-in_err-commit_change-clause-sound
-returns-in_err-commit_change-clause-sound g c = c.commit_change.ensures.sound
-
-pub returns-clause-sound : goal.returns-clause-sound
-returns-clause-sound g c = c.forget_all.ensures.sound
-
-pub plan_shrink-requires-clause-sound : goal.plan_shrink-requires-clause-sound
-plan_shrink-requires-clause-sound g c = c.requires.sound
-
-pub plan_shrink-requires-clause-laid : goal.plan_shrink-requires-clause-laid
-plan_shrink-requires-clause-laid g c = c.requires.ready.order.mapped.laid
-
-pub plan_shrink-requires-clause-ino : goal.plan_shrink-requires-clause-ino
-plan_shrink-requires-clause-ino g c = c.requires.ino
-
-pub plan_shrink-requires-clause-less : goal.plan_shrink-requires-clause-less
-plan_shrink-requires-clause-less g c = c.requires.less
-
-pub commit_change-requires-clause-sound : goal.commit_change-requires-clause-sound
-commit_change-requires-clause-sound g c = c.plan_shrink.ensures.sound
-
-pub commit_change-requires-clause-ino : goal.commit_change-requires-clause-ino
-commit_change-requires-clause-ino g c = c.requires.ino
 
 pub commit_change-requires-clause-shape : goal.commit_change-requires-clause-shape
 commit_change-requires-clause-shape g c =
@@ -249,6 +222,3 @@ commit_change-requires-clause-idle g c =
     let j = g.V.Volume.kept c.plan_shrink.new.v in
     let leaves : LeavesInUse (volume_layout shape x.words) x k y j = leaves_looked shape _ _ _ _ x y k j c.requires.ready c.plan_shrink.ensures.looks (g.met.V.Volume.passes_keeps _ _ c.plan_shrink.ensures.passes) in
     leaves.idle
-
-pub forget_all-requires-clause-sound : goal.forget_all-requires-clause-sound
-forget_all-requires-clause-sound g c = c.commit_change.ensures.sound

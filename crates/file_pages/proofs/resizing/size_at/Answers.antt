@@ -12,9 +12,6 @@ shrink-requires-clause-file g c = c.requires.inode.kind ∙ c.requires.file
 pub grow-requires-clause-file : goal.grow-requires-clause-file
 grow-requires-clause-file g c = c.requires.inode.kind ∙ c.requires.file
 
-pub returns-then-len-inode-clause-leaves : goal.returns-then-len-inode-clause-leaves
-returns-then-len-inode-clause-leaves g c = c.shrink.ensures.leaves
-
 pub returns-then-len-inode-clause-space : goal.returns-then-len-inode-clause-space
 returns-then-len-inode-clause-space g c =
     let shape = c.args.shape.now in
@@ -36,21 +33,6 @@ returns-then-len-inode-clause-room g c =
 pub returns-then-len-inode-clause-no_space : goal.returns-then-len-inode-clause-no_space
 returns-then-len-inode-clause-no_space g c = λ is. absurd (c.shrink.ensures.other.0 is)
 
-pub returns-then-len-inode-clause-small : goal.returns-then-len-inode-clause-small
-returns-then-len-inode-clause-small g c = c.shrink.ensures.other.1
-
-pub returns-then-len-inode-clause-goes : goal.returns-then-len-inode-clause-goes
-returns-then-len-inode-clause-goes g c = c.shrink.ensures.goes
-
-pub returns-then-len-inode-clause-ends : goal.returns-then-len-inode-clause-ends
-returns-then-len-inode-clause-ends g c = c.shrink.ensures.ends
-
-pub returns-then-len-inode-clause-forgets : goal.returns-then-len-inode-clause-forgets
-returns-then-len-inode-clause-forgets g c = c.shrink.ensures.forgets
-
-pub returns-else-len-inode-clause-leaves : goal.returns-else-len-inode-clause-leaves
-returns-else-len-inode-clause-leaves g c = c.grow.ensures.leaves
-
 pub returns-else-len-inode-clause-space : goal.returns-else-len-inode-clause-space
 returns-else-len-inode-clause-space g c =
     let shape = c.args.shape.now in
@@ -70,53 +52,8 @@ returns-else-len-inode-clause-no_space g c =
     let x = g.V.Blocks.seen c.args.v.now in
     λ is. subst (λ n. length (free_blocks c.args.shape.now x.words) < wanted_blocks n c.args.len) c.requires.inode.size (c.grow.ensures.no_space is)
 
-pub returns-else-len-inode-clause-small : goal.returns-else-len-inode-clause-small
-returns-else-len-inode-clause-small g c = c.grow.ensures.small
-
-pub returns-else-len-inode-clause-goes : goal.returns-else-len-inode-clause-goes
-returns-else-len-inode-clause-goes g c = c.grow.ensures.goes
-
-pub returns-else-len-inode-clause-ends : goal.returns-else-len-inode-clause-ends
-returns-else-len-inode-clause-ends g c = c.grow.ensures.ends
-
-pub returns-else-len-inode-clause-forgets : goal.returns-else-len-inode-clause-forgets
-returns-else-len-inode-clause-forgets g c = c.grow.ensures.forgets
-
-pub grow-requires-clause-ino : goal.grow-requires-clause-ino
-grow-requires-clause-ino g c = c.requires.ino
-
-pub shrink-requires-clause-ino : goal.shrink-requires-clause-ino
-shrink-requires-clause-ino g c = c.requires.ino
-
-pub grow-requires-clause-inode : goal.grow-requires-clause-inode
-grow-requires-clause-inode g c = c.requires.inode
-
-pub shrink-requires-clause-inode : goal.shrink-requires-clause-inode
-shrink-requires-clause-inode g c = c.requires.inode
-
-pub grow-requires-clause-ready : goal.grow-requires-clause-ready
-grow-requires-clause-ready g c = c.requires.ready
-
-pub shrink-requires-clause-ready : goal.shrink-requires-clause-ready
-shrink-requires-clause-ready g c = c.requires.ready
-
-pub grow-requires-clause-sound : goal.grow-requires-clause-sound
-grow-requires-clause-sound g c = c.requires.sound
-
-pub shrink-requires-clause-sound : goal.shrink-requires-clause-sound
-shrink-requires-clause-sound g c = c.requires.sound
-
-pub grow-requires-clause-most : goal.grow-requires-clause-most
-grow-requires-clause-most g c = c.requires.most
-
 pub grow-requires-clause-grows : goal.grow-requires-clause-grows
 grow-requires-clause-grows g c = omega (arith, c.if-len-inode.false)
 
 pub shrink-requires-clause-less : goal.shrink-requires-clause-less
 shrink-requires-clause-less g c = c.if-len-inode.true
-
-pub returns-else-len-inode-clause-sound : goal.returns-else-len-inode-clause-sound
-returns-else-len-inode-clause-sound g c = c.grow.ensures.sound
-
-pub returns-then-len-inode-clause-sound : goal.returns-then-len-inode-clause-sound
-returns-then-len-inode-clause-sound g c = c.shrink.ensures.sound

@@ -63,36 +63,6 @@ returns-in_err-store_piece-clause-beside g c =
 pub returns-in_err-store_piece-clause-named : goal.returns-in_err-store_piece-clause-named
 returns-in_err-store_piece-clause-named g c = page_named _ _ c.args.blocks.now c.args.first c.args.i.0 c.args.len c.args.off _ _ _ c.requires.named c.requires.apart c.requires.from c.requires.some c.requires.to refl refl c.bytes_in_page.ensures.size c.store_piece.ensures.caches
 
-pub returns-clause-firm : goal.returns-clause-firm
-returns-clause-firm g c = c.store_piece.ensures.firm
-
-pub returns-clause-goes : goal.returns-clause-goes
-returns-clause-goes g c = c.store_piece.ensures.goes
-
-pub returns-clause-idle : goal.returns-clause-idle
-returns-clause-idle g c = c.store_piece.ensures.idle
-
-pub returns-clause-sound : goal.returns-clause-sound
-returns-clause-sound g c = c.store_piece.ensures.sound
-
-pub returns-in_err-store_piece-clause-firm : goal.returns-in_err-store_piece-clause-firm
-returns-in_err-store_piece-clause-firm g c = c.store_piece.ensures.firm
-
-pub returns-in_err-store_piece-clause-goes : goal.returns-in_err-store_piece-clause-goes
-returns-in_err-store_piece-clause-goes g c = c.store_piece.ensures.goes
-
-pub returns-in_err-store_piece-clause-idle : goal.returns-in_err-store_piece-clause-idle
-returns-in_err-store_piece-clause-idle g c = c.store_piece.ensures.idle
-
-pub returns-in_err-store_piece-clause-sound : goal.returns-in_err-store_piece-clause-sound
-returns-in_err-store_piece-clause-sound g c = c.store_piece.ensures.sound
-
-pub store_piece-requires-clause-idle : goal.store_piece-requires-clause-idle
-store_piece-requires-clause-idle g c = c.requires.idle
-
-pub store_piece-requires-clause-sound : goal.store_piece-requires-clause-sound
-store_piece-requires-clause-sound g c = c.requires.sound
-
 pub returns-clause-ends : goal.returns-clause-ends
 returns-clause-ends g c = bytes_ok _ _ _ c.store_piece.ensures.ends.later (bytes_runs _ _ _ c.in_ok-store_piece.ensures.ends)
 

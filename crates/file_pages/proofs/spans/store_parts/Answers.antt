@@ -71,44 +71,8 @@ returns-in-Err-Stopped-store_span-clause-beside g c = beside_trans _ _ _ _ _ _ _
 pub returns-in-Err-Stopped-store_span-clause-goes : goal.returns-in-Err-Stopped-store_span-clause-goes
 returns-in-Err-Stopped-store_span-clause-goes g c = c.store_span.ensures.goes then c.store_span-2.ensures.goes
 
-pub returns-in-Err-Fault-clause-ok : goal.returns-in-Err-Fault-clause-ok
-returns-in-Err-Fault-clause-ok g c = tt
-
-pub returns-in-Err-Fault-clause-beside : goal.returns-in-Err-Fault-clause-beside
-returns-in-Err-Fault-clause-beside g c = c.store_span.ensures.beside
-
-pub returns-in-Err-Fault-clause-firm : goal.returns-in-Err-Fault-clause-firm
-returns-in-Err-Fault-clause-firm g c = c.store_span.ensures.firm
-
-pub returns-in-Err-Fault-clause-idle : goal.returns-in-Err-Fault-clause-idle
-returns-in-Err-Fault-clause-idle g c = c.store_span.ensures.idle
-
-pub returns-in-Err-Fault-clause-goes : goal.returns-in-Err-Fault-clause-goes
-returns-in-Err-Fault-clause-goes g c = c.store_span.ensures.goes
-
-pub returns-in-Err-Fault-clause-sound : goal.returns-in-Err-Fault-clause-sound
-returns-in-Err-Fault-clause-sound g c = c.store_span.ensures.sound
-
-pub returns-in-Err-Stopped-clause-ok : goal.returns-in-Err-Stopped-clause-ok
-returns-in-Err-Stopped-clause-ok g c = tt
-
 pub returns-in-Err-Stopped-clause-fault : goal.returns-in-Err-Stopped-clause-fault
 returns-in-Err-Stopped-clause-fault g c = λ k is. absurd cc
-
-pub returns-in-Err-Stopped-clause-beside : goal.returns-in-Err-Stopped-clause-beside
-returns-in-Err-Stopped-clause-beside g c = c.store_span.ensures.beside
-
-pub returns-in-Err-Stopped-clause-firm : goal.returns-in-Err-Stopped-clause-firm
-returns-in-Err-Stopped-clause-firm g c = c.store_span.ensures.firm
-
-pub returns-in-Err-Stopped-clause-idle : goal.returns-in-Err-Stopped-clause-idle
-returns-in-Err-Stopped-clause-idle g c = c.store_span.ensures.idle
-
-pub returns-in-Err-Stopped-clause-goes : goal.returns-in-Err-Stopped-clause-goes
-returns-in-Err-Stopped-clause-goes g c = c.store_span.ensures.goes
-
-pub returns-in-Err-Stopped-clause-sound : goal.returns-in-Err-Stopped-clause-sound
-returns-in-Err-Stopped-clause-sound g c = c.store_span.ensures.sound
 
 pub returns-in-Ok-store_span-clause-fault : goal.returns-in-Ok-store_span-clause-fault
 returns-in-Ok-store_span-clause-fault g c = λ k is. absurd cc
@@ -116,98 +80,11 @@ returns-in-Ok-store_span-clause-fault g c = λ k is. absurd cc
 pub returns-in-Ok-store_span-clause-firm : goal.returns-in-Ok-store_span-clause-firm
 returns-in-Ok-store_span-clause-firm g c = firm_trans _ _ _ c.store_span.ensures.firm c.store_span-2.ensures.firm
 
-pub returns-in-Ok-store_span-clause-idle : goal.returns-in-Ok-store_span-clause-idle
-returns-in-Ok-store_span-clause-idle g c = c.store_span-2.ensures.idle
-
-pub returns-in-Ok-store_span-clause-sound : goal.returns-in-Ok-store_span-clause-sound
-returns-in-Ok-store_span-clause-sound g c = c.store_span-2.ensures.sound
-
-pub returns-in-Err-Fault-store_span-clause-ok : goal.returns-in-Err-Fault-store_span-clause-ok
-returns-in-Err-Fault-store_span-clause-ok g c = tt
-
-pub returns-in-Err-Fault-store_span-clause-idle : goal.returns-in-Err-Fault-store_span-clause-idle
-returns-in-Err-Fault-store_span-clause-idle g c = c.store_span-2.ensures.idle
-
-pub returns-in-Err-Fault-store_span-clause-sound : goal.returns-in-Err-Fault-store_span-clause-sound
-returns-in-Err-Fault-store_span-clause-sound g c = c.store_span-2.ensures.sound
-
-pub returns-in-Err-Stopped-store_span-clause-ok : goal.returns-in-Err-Stopped-store_span-clause-ok
-returns-in-Err-Stopped-store_span-clause-ok g c = tt
-
 pub returns-in-Err-Stopped-store_span-clause-fault : goal.returns-in-Err-Stopped-store_span-clause-fault
 returns-in-Err-Stopped-store_span-clause-fault g c = λ k is. absurd cc
 
 pub returns-in-Err-Stopped-store_span-clause-firm : goal.returns-in-Err-Stopped-store_span-clause-firm
 returns-in-Err-Stopped-store_span-clause-firm g c = firm_trans _ _ _ c.store_span.ensures.firm c.store_span-2.ensures.firm
-
-pub returns-in-Err-Stopped-store_span-clause-idle : goal.returns-in-Err-Stopped-store_span-clause-idle
-returns-in-Err-Stopped-store_span-clause-idle g c = c.store_span-2.ensures.idle
-
-pub returns-in-Err-Stopped-store_span-clause-sound : goal.returns-in-Err-Stopped-store_span-clause-sound
-returns-in-Err-Stopped-store_span-clause-sound g c = c.store_span-2.ensures.sound
-
-pub store_span-requires-clause-sound : goal.store_span-requires-clause-sound
-store_span-requires-clause-sound g c = c.requires.sound
-
-pub store_span-requires-clause-idle : goal.store_span-requires-clause-idle
-store_span-requires-clause-idle g c = c.requires.idle
-
-pub store_span-requires-clause-places : goal.store_span-requires-clause-places
-store_span-requires-clause-places g c = c.requires.places
-
-pub store_span-requires-clause-apart : goal.store_span-requires-clause-apart
-store_span-requires-clause-apart g c = c.requires.apart
-
-pub store_span-requires-clause-file : goal.store_span-requires-clause-file
-store_span-requires-clause-file g c = c.requires.file
-
-pub store_span-requires-clause-file_to : goal.store_span-requires-clause-file_to
-store_span-requires-clause-file_to g c = c.requires.file_to
-
-pub store_span-requires-clause-few : goal.store_span-requires-clause-few
-store_span-requires-clause-few g c = c.requires.few
-
-pub store_span-requires-clause-named : goal.store_span-requires-clause-named
-store_span-requires-clause-named g c = c.requires.named
-
-pub store_span-requires-2-clause-sound : goal.store_span-requires-2-clause-sound
-store_span-requires-2-clause-sound g c = c.store_span.ensures.sound
-
-pub store_span-requires-2-clause-idle : goal.store_span-requires-2-clause-idle
-store_span-requires-2-clause-idle g c = c.store_span.ensures.idle
-
-pub store_span-requires-2-clause-apart : goal.store_span-requires-2-clause-apart
-store_span-requires-2-clause-apart g c = c.requires.apart
-
-pub store_span-requires-2-clause-file : goal.store_span-requires-2-clause-file
-store_span-requires-2-clause-file g c = c.requires.file
-
-pub store_span-requires-2-clause-file_to : goal.store_span-requires-2-clause-file_to
-store_span-requires-2-clause-file_to g c = c.requires.file_to
-
-pub store_span-requires-2-clause-few : goal.store_span-requires-2-clause-few
-store_span-requires-2-clause-few g c = c.requires.few
-
-pub store_span-requires-2-clause-from : goal.store_span-requires-2-clause-from
-store_span-requires-2-clause-from g c = c.requires.from
-
-pub store_span-requires-2-clause-named : goal.store_span-requires-2-clause-named
-store_span-requires-2-clause-named g c = c.store_span.ensures.named
-
-pub returns-in-Err-Fault-clause-named : goal.returns-in-Err-Fault-clause-named
-returns-in-Err-Fault-clause-named g c = c.store_span.ensures.named
-
-pub returns-in-Err-Stopped-clause-named : goal.returns-in-Err-Stopped-clause-named
-returns-in-Err-Stopped-clause-named g c = c.store_span.ensures.named
-
-pub returns-in-Ok-store_span-clause-named : goal.returns-in-Ok-store_span-clause-named
-returns-in-Ok-store_span-clause-named g c = c.store_span-2.ensures.named
-
-pub returns-in-Err-Fault-store_span-clause-named : goal.returns-in-Err-Fault-store_span-clause-named
-returns-in-Err-Fault-store_span-clause-named g c = c.store_span-2.ensures.named
-
-pub returns-in-Err-Stopped-store_span-clause-named : goal.returns-in-Err-Stopped-store_span-clause-named
-returns-in-Err-Stopped-store_span-clause-named g c = c.store_span-2.ensures.named
 
 pub returns-in-Err-Fault-clause-ends : goal.returns-in-Err-Fault-clause-ends
 returns-in-Err-Fault-clause-ends g c = bytes_fault _ _ _ c.in-Err-Fault.field-0-0 _ c.in-Err-Fault.field-0-is c.in-Err-Fault.ensures.ends

@@ -55,47 +55,8 @@ returns-in-Err-Stopped-clause-front g c =
     let more = span_more _ _ _ (numbers c.args.blocks.now) c.args.first c.args.off c.args.bytes.now c.loop-done.done front.0 inv.within inv.puts front.1 front.2 in
     (c.loop-done.done + front.0, more.0, more.1)
 
-pub store_page-requires-clause-sound : goal.store_page-requires-clause-sound
-store_page-requires-clause-sound g c = c.loop-done.invariant.sound
-
-pub store_page-requires-clause-idle : goal.store_page-requires-clause-idle
-store_page-requires-clause-idle g c = c.loop-done.invariant.idle
-
-pub store_page-requires-clause-named : goal.store_page-requires-clause-named
-store_page-requires-clause-named g c = c.loop-done.invariant.named
-
-pub store_page-requires-clause-apart : goal.store_page-requires-clause-apart
-store_page-requires-clause-apart g c = c.requires.apart
-
-pub store_page-requires-clause-file : goal.store_page-requires-clause-file
-store_page-requires-clause-file g c = c.requires.file
-
-pub store_page-requires-clause-file_to : goal.store_page-requires-clause-file_to
-store_page-requires-clause-file_to g c = c.requires.file_to
-
-pub store_page-requires-clause-few : goal.store_page-requires-clause-few
-store_page-requires-clause-few g c = c.requires.few
-
 pub store_page-requires-clause-from : goal.store_page-requires-clause-from
 store_page-requires-clause-from g c = omega (arith, c.requires.from)
-
-pub returns-in-Err-Fault-clause-sound : goal.returns-in-Err-Fault-clause-sound
-returns-in-Err-Fault-clause-sound g c = c.store_page.ensures.sound
-
-pub returns-in-Err-Fault-clause-idle : goal.returns-in-Err-Fault-clause-idle
-returns-in-Err-Fault-clause-idle g c = c.store_page.ensures.idle
-
-pub returns-in-Err-Fault-clause-named : goal.returns-in-Err-Fault-clause-named
-returns-in-Err-Fault-clause-named g c = c.store_page.ensures.named
-
-pub returns-in-Err-Stopped-clause-sound : goal.returns-in-Err-Stopped-clause-sound
-returns-in-Err-Stopped-clause-sound g c = c.store_page.ensures.sound
-
-pub returns-in-Err-Stopped-clause-idle : goal.returns-in-Err-Stopped-clause-idle
-returns-in-Err-Stopped-clause-idle g c = c.store_page.ensures.idle
-
-pub returns-in-Err-Stopped-clause-named : goal.returns-in-Err-Stopped-clause-named
-returns-in-Err-Stopped-clause-named g c = c.store_page.ensures.named
 
 pub returns-in-Err-Fault-clause-beside : goal.returns-in-Err-Fault-clause-beside
 returns-in-Err-Fault-clause-beside g c = beside_trans _ _ _ _ _ _ _ c.loop-done.invariant.beside c.store_page.ensures.beside
@@ -123,30 +84,6 @@ returns-in-Err-Stopped-clause-ends g c = ends_by_after _ _ _ _ _ c.loop-done.inv
 
 pub returns-in-Err-Stopped-clause-fault : goal.returns-in-Err-Stopped-clause-fault
 returns-in-Err-Stopped-clause-fault g c = λ k is. absurd cc
-
-pub returns-in-Err-Fault-clause-ok : goal.returns-in-Err-Fault-clause-ok
-returns-in-Err-Fault-clause-ok g c = tt
-
-pub returns-in-Err-Stopped-clause-ok : goal.returns-in-Err-Stopped-clause-ok
-returns-in-Err-Stopped-clause-ok g c = tt
-
-pub returns-clause-sound : goal.returns-clause-sound
-returns-clause-sound g c = c.loop-done.invariant.sound
-
-pub returns-clause-idle : goal.returns-clause-idle
-returns-clause-idle g c = c.loop-done.invariant.idle
-
-pub returns-clause-named : goal.returns-clause-named
-returns-clause-named g c = c.loop-done.invariant.named
-
-pub returns-clause-beside : goal.returns-clause-beside
-returns-clause-beside g c = c.loop-done.invariant.beside
-
-pub returns-clause-firm : goal.returns-clause-firm
-returns-clause-firm g c = c.loop-done.invariant.firm
-
-pub returns-clause-goes : goal.returns-clause-goes
-returns-clause-goes g c = c.loop-done.invariant.goes
 
 pub returns-clause-fault : goal.returns-clause-fault
 returns-clause-fault g c = λ k is. absurd cc

@@ -8,24 +8,6 @@ use Rattle.rio_base.proofs.BlockRules.{ends_later, still_unnamed, metadata}
 use Rattle.rio_base.proofs.Rules.{looks_trans}
 use Rattle.file_pages.proofs.updating.touch_change.Goals as goal
 
-pub returns-in_err-touch_bitmap-clause-looks : goal.returns-in_err-touch_bitmap-clause-looks
-returns-in_err-touch_bitmap-clause-looks g c = c.touch_bitmap.ensures.looks
-
-pub returns-in_err-touch_bitmap-clause-standing : goal.returns-in_err-touch_bitmap-clause-standing
-returns-in_err-touch_bitmap-clause-standing g c = c.touch_bitmap.ensures.standing
-
-pub returns-in_err-touch_bitmap-clause-firm : goal.returns-in_err-touch_bitmap-clause-firm
-returns-in_err-touch_bitmap-clause-firm g c = c.touch_bitmap.ensures.firm
-
-pub returns-in_err-touch_bitmap-clause-in_update : goal.returns-in_err-touch_bitmap-clause-in_update
-returns-in_err-touch_bitmap-clause-in_update g c = c.touch_bitmap.ensures.in_update
-
-pub returns-in_err-touch_bitmap-clause-goes : goal.returns-in_err-touch_bitmap-clause-goes
-returns-in_err-touch_bitmap-clause-goes g c = c.touch_bitmap.ensures.goes
-
-pub returns-in_err-touch_bitmap-clause-sound : goal.returns-in_err-touch_bitmap-clause-sound
-returns-in_err-touch_bitmap-clause-sound g c = c.touch_bitmap.ensures.sound
-
 pub returns-in_err-touch-clause-looks : goal.returns-in_err-touch-clause-looks
 returns-in_err-touch-clause-looks g c = looks_trans _ _ _ c.touch_bitmap.ensures.looks c.touch.ensures.looks
 
@@ -35,29 +17,8 @@ returns-in_err-touch-clause-standing g c = c.touch.ensures.standing ∙ c.touch_
 pub returns-in_err-touch-clause-firm : goal.returns-in_err-touch-clause-firm
 returns-in_err-touch-clause-firm g c = firm_trans _ _ _ c.touch_bitmap.ensures.firm c.touch.ensures.firm
 
-pub returns-in_err-touch-clause-in_update : goal.returns-in_err-touch-clause-in_update
-returns-in_err-touch-clause-in_update g c = c.touch.ensures.in_update
-
 pub returns-in_err-touch-clause-goes : goal.returns-in_err-touch-clause-goes
 returns-in_err-touch-clause-goes g c = c.touch_bitmap.ensures.goes then c.touch.ensures.goes
-
-pub returns-in_err-touch-clause-sound : goal.returns-in_err-touch-clause-sound
-returns-in_err-touch-clause-sound g c = c.touch.ensures.sound
-
-pub touch_bitmap-requires-clause-sound : goal.touch_bitmap-requires-clause-sound
-touch_bitmap-requires-clause-sound g c = c.requires.sound
-
-pub touch_bitmap-requires-clause-in_update : goal.touch_bitmap-requires-clause-in_update
-touch_bitmap-requires-clause-in_update g c = c.requires.in_update
-
-pub touch_bitmap-requires-clause-room : goal.touch_bitmap-requires-clause-room
-touch_bitmap-requires-clause-room g c = c.requires.room
-
-pub touch-requires-clause-sound : goal.touch-requires-clause-sound
-touch-requires-clause-sound g c = c.touch_bitmap.ensures.sound
-
-pub touch-requires-clause-in_update : goal.touch-requires-clause-in_update
-touch-requires-clause-in_update g c = c.touch_bitmap.ensures.in_update
 
 pub returns-in_err-touch_bitmap-clause-caches : goal.returns-in_err-touch_bitmap-clause-caches
 returns-in_err-touch_bitmap-clause-caches g c = caches_by_one _ _ _ _ _ c.touch_bitmap.ensures.caches (inl refl, refl)
@@ -80,9 +41,6 @@ returns-in_err-touch-clause-ends g c = let p = err_from_is_err_and c.from_residu
 pub returns-in_err-touch-clause-ok : goal.returns-in_err-touch-clause-ok
 returns-in_err-touch-clause-ok g c = if_err c.from_residual-in_err-touch.result _ c.from_residual-in_err-touch.ensures.0
 
-pub touch_bitmap-requires-clause-shape : goal.touch_bitmap-requires-clause-shape
-touch_bitmap-requires-clause-shape g c = c.requires.shape
-
 pub touch-requires-clause-metadata : goal.touch-requires-clause-metadata
 touch-requires-clause-metadata g c = subst (λ b. CanName (g.V.Blocks.seen c.touch_bitmap.new.v) b None) (sym c.inode_block.ensures) (metadata c.args.shape.now _ _ (still_unnamed _ _ _ _ c.requires.shape c.touch_bitmap.ensures.looks.count c.touch_bitmap.ensures.caches) (inode_low c.args.shape.now c.args.i.0 c.requires.shape.sizes c.requires.ino))
 
@@ -97,12 +55,6 @@ returns-then-is_empty-clause-standing g c = c.touch.ensures.standing ∙ c.touch
 
 pub returns-then-is_empty-clause-firm : goal.returns-then-is_empty-clause-firm
 returns-then-is_empty-clause-firm g c = firm_trans _ _ _ c.touch_bitmap.ensures.firm c.touch.ensures.firm
-
-pub returns-then-is_empty-clause-in_update : goal.returns-then-is_empty-clause-in_update
-returns-then-is_empty-clause-in_update g c = c.touch.ensures.in_update
-
-pub returns-then-is_empty-clause-sound : goal.returns-then-is_empty-clause-sound
-returns-then-is_empty-clause-sound g c = c.touch.ensures.sound
 
 pub returns-then-is_empty-clause-goes : goal.returns-then-is_empty-clause-goes
 returns-then-is_empty-clause-goes g c = c.touch_bitmap.ensures.goes then c.touch.ensures.goes
@@ -125,12 +77,6 @@ returns-clause-standing g c = c.touch-2.ensures.standing ∙ c.touch.ensures.sta
 pub returns-clause-firm : goal.returns-clause-firm
 returns-clause-firm g c = firm_trans _ _ _ (firm_trans _ _ _ c.touch_bitmap.ensures.firm c.touch.ensures.firm) c.touch-2.ensures.firm
 
-pub returns-clause-in_update : goal.returns-clause-in_update
-returns-clause-in_update g c = c.touch-2.ensures.in_update
-
-pub returns-clause-sound : goal.returns-clause-sound
-returns-clause-sound g c = c.touch-2.ensures.sound
-
 pub returns-clause-goes : goal.returns-clause-goes
 returns-clause-goes g c = c.touch_bitmap.ensures.goes then c.touch.ensures.goes then c.touch-2.ensures.goes
 
@@ -139,12 +85,6 @@ returns-clause-ends g c = ends_later _ _ _ _ c.touch_bitmap.ensures.ends.later c
 
 pub returns-clause-caches : goal.returns-clause-caches
 returns-clause-caches g c = caches_by_trans _ _ _ _ (caches_by_one _ _ _ _ _ c.touch_bitmap.ensures.caches (inl refl, refl)) (caches_by_trans _ _ _ _ (caches_by_one _ _ _ _ _ c.touch.ensures.caches (inr (inl c.inode_block.ensures), refl)) (caches_by_one _ _ _ _ _ c.touch-2.ensures.caches (inr (inr (first_edited c.as_slice-edits.result.now _ _ c.as_slice-edits.ensures (some_length _ (sym c.is_empty.ensures ∙ c.if-is_empty.false)))), refl)))
-
-pub touch-requires-2-clause-sound : goal.touch-requires-2-clause-sound
-touch-requires-2-clause-sound g c = c.touch.ensures.sound
-
-pub touch-requires-2-clause-in_update : goal.touch-requires-2-clause-in_update
-touch-requires-2-clause-in_update g c = c.touch.ensures.in_update
 
 pub touch-requires-2-clause-place : goal.touch-requires-2-clause-place
 touch-requires-2-clause-place g c = first_place c.as_slice-edits.result.now _ _ _ (some_length _ (sym c.is_empty.ensures ∙ c.if-is_empty.false)) (λ e on. c.requires.can.makes.to e (subst (λ es. Contains es e) c.as_slice-edits.ensures on)) (c.touch.ensures.looks.count ∙ c.touch_bitmap.ensures.looks.count ∙ c.requires.shape.count)

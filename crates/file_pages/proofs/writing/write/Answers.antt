@@ -14,9 +14,6 @@ pub returns-then-is_empty-clause-ok : goal.returns-then-is_empty-clause-ok
 returns-then-is_empty-clause-ok g c =
     none_both c.args.shape.now (g.V.Blocks.seen c.args.v.now) (g.V.Volume.kept c.args.v.now) c.args.i.0 c.args.off c.args.bytes.now c.requires.ready (g.met.V.Volume.settled _ c.requires.sound) c.requires.file (no_length _ (sym c.is_empty.ensures ∙ c.if-is_empty.true))
 
-pub returns-then-is_empty-clause-sound : goal.returns-then-is_empty-clause-sound
-returns-then-is_empty-clause-sound g c = c.requires.sound
-
 pub returns-then-is_empty-clause-ends : goal.returns-then-is_empty-clause-ends
 returns-then-is_empty-clause-ends g c = write_still _ _
 
@@ -53,9 +50,6 @@ returns-then-off-gt-LARGEST_SIZE-clause-ends g c = large_still _
 pub returns-then-off-gt-LARGEST_SIZE-clause-goes : goal.returns-then-off-gt-LARGEST_SIZE-clause-goes
 returns-then-off-gt-LARGEST_SIZE-clause-goes g c = goes_refl _ _
 
-pub returns-then-off-gt-LARGEST_SIZE-clause-sound : goal.returns-then-off-gt-LARGEST_SIZE-clause-sound
-returns-then-off-gt-LARGEST_SIZE-clause-sound g c = c.requires.sound
-
 pub returns-then-off-gt-LARGEST_SIZE-clause-ready : goal.returns-then-off-gt-LARGEST_SIZE-clause-ready
 returns-then-off-gt-LARGEST_SIZE-clause-ready g c = inr c.requires.ready
 
@@ -68,29 +62,14 @@ returns-then-off-gt-LARGEST_SIZE-clause-no_space g c = λ is. absurd (large_spac
 pub returns-then-off-gt-LARGEST_SIZE-clause-stopped : goal.returns-then-off-gt-LARGEST_SIZE-clause-stopped
 returns-then-off-gt-LARGEST_SIZE-clause-stopped g c = λ is. absurd (large_stopped is)
 
-pub returns-then-off-gt-LARGEST_SIZE-clause-ok : goal.returns-then-off-gt-LARGEST_SIZE-clause-ok
-returns-then-off-gt-LARGEST_SIZE-clause-ok g c = tt
-
-pub returns-then-off-gt-LARGEST_SIZE-clause-space : goal.returns-then-off-gt-LARGEST_SIZE-clause-space
-returns-then-off-gt-LARGEST_SIZE-clause-space g c = tt
-
-pub returns-then-off-gt-LARGEST_SIZE-clause-value : goal.returns-then-off-gt-LARGEST_SIZE-clause-value
-returns-then-off-gt-LARGEST_SIZE-clause-value g c = tt
-
 pub returns-then-off-gt-LARGEST_SIZE-clause-refused : goal.returns-then-off-gt-LARGEST_SIZE-clause-refused
 returns-then-off-gt-LARGEST_SIZE-clause-refused g c = λ is. leaves_refl c.args.shape.now _ _ c.requires.ready
-
-pub look_inode-requires-clause-sound : goal.look_inode-requires-clause-sound
-look_inode-requires-clause-sound g c = c.requires.sound
 
 pub look_inode-requires-clause-ino : goal.look_inode-requires-clause-ino
 look_inode-requires-clause-ino g c = file_ino c.args.shape.now (g.V.Blocks.seen c.args.v.now).words c.args.i.0 c.requires.file
 
 pub look_inode-requires-clause-can : goal.look_inode-requires-clause-can
 look_inode-requires-clause-can g c = can_look_up c.args.shape.now _ c.requires.ready.order.has_shape c.requires.ready.order.mapped c.requires.ready.order.named
-
-pub write_at_inode-requires-clause-sound : goal.write_at_inode-requires-clause-sound
-write_at_inode-requires-clause-sound g c = c.look_inode.ensures.sound
 
 pub write_at_inode-requires-clause-ready : goal.write_at_inode-requires-clause-ready
 write_at_inode-requires-clause-ready g c =
@@ -173,20 +152,11 @@ returns-in_err-inode-clause-goes g c = (g.met.V.Volume.passes_keeps _ _ c.look_i
 pub returns-in_err-inode-clause-ends : goal.returns-in_err-inode-clause-ends
 returns-in_err-inode-clause-ends g c = let p = err_from_is_err_and c.from_residual.result c.from_residual.ensures.1 in ends_write_vol _ _ _ c.from_residual.result _ p.0 c.in_err-inode.was p.1 p.2 c.look_inode.ensures.ends
 
-pub returns-in_err-inode-clause-sound : goal.returns-in_err-inode-clause-sound
-returns-in_err-inode-clause-sound g c = c.look_inode.ensures.sound
-
-pub returns-clause-value : goal.returns-clause-value
-returns-clause-value g c = c.write_at_inode.ensures.value
-
 pub returns-clause-ok : goal.returns-clause-ok
 returns-clause-ok g c = subst (λ f. OnOk c.write_at_inode.result (SetsBoth c.args.shape.now f (g.V.Blocks.seen c.write_at_inode.new.v) (g.V.Volume.kept c.write_at_inode.new.v) c.args.i.0 (written (file_bytes c.args.shape.now f c.args.i.0) c.args.off c.args.bytes.now))) c.look_inode.ensures.looks.looks.words c.write_at_inode.ensures.ok
 
 pub returns-clause-space : goal.returns-clause-space
 returns-clause-space g c = subst (λ f. OnOk c.write_at_inode.result (HasSpaceFor c.args.shape.now f (length (file_bytes c.args.shape.now f c.args.i.0)) c.args.off c.args.bytes.now)) c.look_inode.ensures.looks.looks.words c.write_at_inode.ensures.space
-
-pub returns-clause-too_large : goal.returns-clause-too_large
-returns-clause-too_large g c = c.write_at_inode.ensures.too_large
 
 pub returns-clause-no_space : goal.returns-clause-no_space
 returns-clause-no_space g c = λ is. subst (λ f. (0 < length c.args.bytes.now) × (c.args.off + length c.args.bytes.now ≤ largest_size) × (length (free_blocks c.args.shape.now f) < wanted_blocks (length (file_bytes c.args.shape.now f c.args.i.0)) (c.args.off + length c.args.bytes.now))) c.look_inode.ensures.looks.looks.words (c.write_at_inode.ensures.no_space is)
@@ -207,14 +177,8 @@ returns-clause-fault g c = λ n is. subst (λ f. FaultsAfter c.args.shape.now f 
 pub returns-clause-stopped : goal.returns-clause-stopped
 returns-clause-stopped g c = λ is. subst (λ f. StopsAs c.args.shape.now f (g.V.Blocks.seen c.write_at_inode.new.v) (g.V.Volume.kept c.write_at_inode.new.v) c.args.i.0 (WriteStops c.args.shape.now f c.args.i.0 c.args.off c.args.bytes.now)) c.look_inode.ensures.looks.looks.words (c.write_at_inode.ensures.stopped is)
 
-pub returns-clause-ready : goal.returns-clause-ready
-returns-clause-ready g c = c.write_at_inode.ensures.ready
-
 pub returns-clause-goes : goal.returns-clause-goes
 returns-clause-goes g c = (g.met.V.Volume.passes_keeps _ _ c.look_inode.ensures.passes).goes then c.write_at_inode.ensures.goes
 
 pub returns-clause-ends : goal.returns-clause-ends
 returns-clause-ends g c = ends_by_after _ _ _ _ _ c.look_inode.ensures.ends.later c.in_ok-inode.ensures.ends.cause c.write_at_inode.ensures.ends
-
-pub returns-clause-sound : goal.returns-clause-sound
-returns-clause-sound g c = c.write_at_inode.ensures.sound

@@ -22,20 +22,8 @@ returns-then-off-bytes-clause-room g c =
     let most : c.args.inode.now.size ≤ largest_size = given_most shape x.words i c.args.inode.now (numbered_of shape x.words c.requires.ready.order.mapped) c.requires.ino (inl (own, omega (arith, sym own.kind, c.requires.file))) in
     on_any (HasSpace shape x.words (placed_at x.words i).size len) c.write_within.result (space_less shape x.words (placed_at x.words i).size len (subst (λ (n : ℕ). n ≤ largest_size) own.size most) (subst (λ (n : ℕ). len ≤ n) own.size c.if-off-bytes.true))
 
-pub returns-then-off-bytes-clause-leaves : goal.returns-then-off-bytes-clause-leaves
-returns-then-off-bytes-clause-leaves g c = c.write_within.ensures.leaves
-
 pub returns-then-off-bytes-clause-no_space : goal.returns-then-off-bytes-clause-no_space
 returns-then-off-bytes-clause-no_space g c = λ is. absurd (c.write_within.ensures.spacious is)
-
-pub returns-then-off-bytes-clause-goes : goal.returns-then-off-bytes-clause-goes
-returns-then-off-bytes-clause-goes g c = c.write_within.ensures.goes
-
-pub returns-then-off-bytes-clause-ends : goal.returns-then-off-bytes-clause-ends
-returns-then-off-bytes-clause-ends g c = c.write_within.ensures.ends
-
-pub returns-else-off-bytes-clause-leaves : goal.returns-else-off-bytes-clause-leaves
-returns-else-off-bytes-clause-leaves g c = c.write_past.ensures.leaves
 
 pub returns-else-off-bytes-clause-room : goal.returns-else-off-bytes-clause-room
 returns-else-off-bytes-clause-room g c =
@@ -46,57 +34,6 @@ pub returns-else-off-bytes-clause-no_space : goal.returns-else-off-bytes-clause-
 returns-else-off-bytes-clause-no_space g c =
     let x = g.V.Blocks.seen c.args.v.now in
     λ is. subst (λ n. length (free_blocks c.args.shape.now x.words) < wanted_blocks n (c.args.off + length c.args.bytes.now)) c.requires.inode.size (c.write_past.ensures.no_space is)
-
-pub returns-else-off-bytes-clause-goes : goal.returns-else-off-bytes-clause-goes
-returns-else-off-bytes-clause-goes g c = c.write_past.ensures.goes
-
-pub returns-else-off-bytes-clause-ends : goal.returns-else-off-bytes-clause-ends
-returns-else-off-bytes-clause-ends g c = c.write_past.ensures.ends
-
-pub returns-then-off-bytes-clause-small : goal.returns-then-off-bytes-clause-small
-returns-then-off-bytes-clause-small g c = c.write_within.ensures.small
-
-pub returns-then-off-bytes-clause-sound : goal.returns-then-off-bytes-clause-sound
-returns-then-off-bytes-clause-sound g c = c.write_within.ensures.sound
-
-pub returns-else-off-bytes-clause-small : goal.returns-else-off-bytes-clause-small
-returns-else-off-bytes-clause-small g c = c.write_past.ensures.small
-
-pub returns-else-off-bytes-clause-sound : goal.returns-else-off-bytes-clause-sound
-returns-else-off-bytes-clause-sound g c = c.write_past.ensures.sound
-
-pub write_past-requires-clause-ino : goal.write_past-requires-clause-ino
-write_past-requires-clause-ino g c = c.requires.ino
-
-pub write_past-requires-clause-inode : goal.write_past-requires-clause-inode
-write_past-requires-clause-inode g c = c.requires.inode
-
-pub write_past-requires-clause-most : goal.write_past-requires-clause-most
-write_past-requires-clause-most g c = c.requires.most
-
-pub write_past-requires-clause-ready : goal.write_past-requires-clause-ready
-write_past-requires-clause-ready g c = c.requires.ready
-
-pub write_past-requires-clause-some : goal.write_past-requires-clause-some
-write_past-requires-clause-some g c = c.requires.some
-
-pub write_past-requires-clause-sound : goal.write_past-requires-clause-sound
-write_past-requires-clause-sound g c = c.requires.sound
-
-pub write_within-requires-clause-ino : goal.write_within-requires-clause-ino
-write_within-requires-clause-ino g c = c.requires.ino
-
-pub write_within-requires-clause-inode : goal.write_within-requires-clause-inode
-write_within-requires-clause-inode g c = c.requires.inode
-
-pub write_within-requires-clause-ready : goal.write_within-requires-clause-ready
-write_within-requires-clause-ready g c = c.requires.ready
-
-pub write_within-requires-clause-some : goal.write_within-requires-clause-some
-write_within-requires-clause-some g c = c.requires.some
-
-pub write_within-requires-clause-sound : goal.write_within-requires-clause-sound
-write_within-requires-clause-sound g c = c.requires.sound
 
 pub write_within-requires-clause-within : goal.write_within-requires-clause-within
 write_within-requires-clause-within g c = c.if-off-bytes.true

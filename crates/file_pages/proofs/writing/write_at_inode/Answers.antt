@@ -14,9 +14,6 @@ pub returns-then-is_empty-clause-ok : goal.returns-then-is_empty-clause-ok
 returns-then-is_empty-clause-ok g c =
     none_both c.args.shape.now (g.V.Blocks.seen c.args.v.now) (g.V.Volume.kept c.args.v.now) c.args.i.0 c.args.off c.args.bytes.now c.requires.ready (g.met.V.Volume.settled _ c.requires.sound) c.requires.file (no_length _ (sym c.is_empty.ensures ∙ c.if-is_empty.true))
 
-pub write_at-requires-clause-inode : goal.write_at-requires-clause-inode
-write_at-requires-clause-inode g c = c.requires.inode
-
 pub write_at-requires-clause-ino : goal.write_at-requires-clause-ino
 write_at-requires-clause-ino g c = file_ino c.args.shape.now (g.V.Blocks.seen c.args.v.now).words c.args.i.0 c.requires.file
 
@@ -76,27 +73,6 @@ returns-clause-space g c =
 pub returns-clause-ends : goal.returns-clause-ends
 returns-clause-ends g c = ends_write_ok _ _ c.write_at.result _ _ c.in_ok-write_at.was c.write_at.ensures.ends
 
-pub returns-in_err-write_at-clause-goes : goal.returns-in_err-write_at-clause-goes
-returns-in_err-write_at-clause-goes g c = c.write_at.ensures.goes
-
-pub returns-in_err-write_at-clause-sound : goal.returns-in_err-write_at-clause-sound
-returns-in_err-write_at-clause-sound g c = c.write_at.ensures.sound
-
-pub returns-clause-goes : goal.returns-clause-goes
-returns-clause-goes g c = c.write_at.ensures.goes
-
-pub returns-clause-sound : goal.returns-clause-sound
-returns-clause-sound g c = c.write_at.ensures.sound
-
-pub write_at-requires-clause-sound : goal.write_at-requires-clause-sound
-write_at-requires-clause-sound g c = c.requires.sound
-
-pub write_at-requires-clause-ready : goal.write_at-requires-clause-ready
-write_at-requires-clause-ready g c = c.requires.ready
-
-pub returns-then-is_empty-clause-sound : goal.returns-then-is_empty-clause-sound
-returns-then-is_empty-clause-sound g c = c.requires.sound
-
 pub returns-clause-too_large : goal.returns-clause-too_large
 returns-clause-too_large g c = λ is. absurd ((write_unrefused _).1 is)
 
@@ -148,9 +124,6 @@ returns-then-off-gt-LARGEST_SIZE-clause-ends g c = large_still _
 pub returns-then-off-gt-LARGEST_SIZE-clause-goes : goal.returns-then-off-gt-LARGEST_SIZE-clause-goes
 returns-then-off-gt-LARGEST_SIZE-clause-goes g c = goes_refl _ _
 
-pub returns-then-off-gt-LARGEST_SIZE-clause-sound : goal.returns-then-off-gt-LARGEST_SIZE-clause-sound
-returns-then-off-gt-LARGEST_SIZE-clause-sound g c = c.requires.sound
-
 pub returns-then-off-gt-LARGEST_SIZE-clause-ready : goal.returns-then-off-gt-LARGEST_SIZE-clause-ready
 returns-then-off-gt-LARGEST_SIZE-clause-ready g c = inr c.requires.ready
 
@@ -163,29 +136,14 @@ returns-then-off-gt-LARGEST_SIZE-clause-no_space g c = λ is. absurd (large_spac
 pub returns-then-off-gt-LARGEST_SIZE-clause-stopped : goal.returns-then-off-gt-LARGEST_SIZE-clause-stopped
 returns-then-off-gt-LARGEST_SIZE-clause-stopped g c = λ is. absurd (large_stopped is)
 
-pub returns-then-off-gt-LARGEST_SIZE-clause-ok : goal.returns-then-off-gt-LARGEST_SIZE-clause-ok
-returns-then-off-gt-LARGEST_SIZE-clause-ok g c = tt
-
-pub returns-then-off-gt-LARGEST_SIZE-clause-space : goal.returns-then-off-gt-LARGEST_SIZE-clause-space
-returns-then-off-gt-LARGEST_SIZE-clause-space g c = tt
-
-pub returns-then-off-gt-LARGEST_SIZE-clause-value : goal.returns-then-off-gt-LARGEST_SIZE-clause-value
-returns-then-off-gt-LARGEST_SIZE-clause-value g c = tt
-
 pub returns-then-off-gt-LARGEST_SIZE-clause-refused : goal.returns-then-off-gt-LARGEST_SIZE-clause-refused
 returns-then-off-gt-LARGEST_SIZE-clause-refused g c = λ is. leaves_refl c.args.shape.now _ _ c.requires.ready
-
-pub returns-clause-ok : goal.returns-clause-ok
-returns-clause-ok g c = c.in_ok-write_at.ensures.leaves.0
 
 pub returns-clause-ready : goal.returns-clause-ready
 returns-clause-ready g c = inr c.in_ok-write_at.ensures.leaves.1
 
 pub returns-clause-refused : goal.returns-clause-refused
 returns-clause-refused g c = λ is. absurd (well_refused _ is)
-
-pub returns-clause-value : goal.returns-clause-value
-returns-clause-value g c = refl
 
 pub returns-in_err-write_at-clause-ok : goal.returns-in_err-write_at-clause-ok
 returns-in_err-write_at-clause-ok g c = if_err c.from_residual.result _ c.from_residual.ensures.0

@@ -25,56 +25,11 @@ returns-clause-found g c = λ s reads. c.in_ok-i.ensures.found s reads
 pub returns-clause-ends : goal.returns-clause-ends
 returns-clause-ends g c = ends_ok _ _ _ (well _ _ c.region_at.result _ c.in_ok-i.was c.region_at.ensures.ends)
 
-pub region_at-requires-clause-sound : goal.region_at-requires-clause-sound
-region_at-requires-clause-sound g c = c.requires.sound
-
-pub region_at-requires-clause-can : goal.region_at-requires-clause-can
-region_at-requires-clause-can g c = c.requires.can
-
 pub region_at-requires-clause-in_step : goal.region_at-requires-clause-in_step
 region_at-requires-clause-in_step g c = c.none-memo.ensures _ _
-
-pub region_at-requires-clause-path : goal.region_at-requires-clause-path
-region_at-requires-clause-path g c = c.requires.path
 
 pub returns-in_err-i-clause-region : goal.returns-in_err-i-clause-region
 returns-in_err-i-clause-region g c = let p = err_from_is_err_and c.from_residual.result c.from_residual.ensures.1 in never_some _ _ p.0 p.1
 
 pub returns-in_err-i-clause-ino : goal.returns-in_err-i-clause-ino
 returns-in_err-i-clause-ino g c = let p = err_from_is_err_and c.from_residual.result c.from_residual.ensures.1 in never_some _ _ p.0 p.1
-
-pub returns-in_err-i-clause-leaves : goal.returns-in_err-i-clause-leaves
-returns-in_err-i-clause-leaves g c = c.region_at.ensures.leaves
-
-pub returns-in_err-i-clause-words : goal.returns-in_err-i-clause-words
-returns-in_err-i-clause-words g c = c.region_at.ensures.words
-
-pub returns-in_err-i-clause-can : goal.returns-in_err-i-clause-can
-returns-in_err-i-clause-can g c = c.region_at.ensures.can
-
-pub returns-in_err-i-clause-goes : goal.returns-in_err-i-clause-goes
-returns-in_err-i-clause-goes g c = c.region_at.ensures.goes
-
-pub returns-in_err-i-clause-sound : goal.returns-in_err-i-clause-sound
-returns-in_err-i-clause-sound g c = c.region_at.ensures.sound
-
-pub returns-clause-leaves : goal.returns-clause-leaves
-returns-clause-leaves g c = c.region_at.ensures.leaves
-
-pub returns-clause-words : goal.returns-clause-words
-returns-clause-words g c = c.region_at.ensures.words
-
-pub returns-clause-can : goal.returns-clause-can
-returns-clause-can g c = c.region_at.ensures.can
-
-pub returns-clause-goes : goal.returns-clause-goes
-returns-clause-goes g c = c.region_at.ensures.goes
-
-pub returns-clause-sound : goal.returns-clause-sound
-returns-clause-sound g c = c.region_at.ensures.sound
-
-pub returns-clause-region : goal.returns-clause-region
-returns-clause-region g c = c.in_ok-i.ensures.region
-
-pub returns-clause-ino : goal.returns-clause-ino
-returns-clause-ino g c = c.in_ok-i.ensures.ino

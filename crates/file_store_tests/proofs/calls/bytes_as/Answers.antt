@@ -8,68 +8,8 @@ use Rattle.file_store_tests.proofs.calls.bytes_as.Goals as goal
 pub returns-in-Read-clause-follows : goal.returns-in-Read-clause-follows
 returns-in-Read-clause-follows c = follows_end SaysBytes c.args.shape.now (list_seen c.args.v.now) (list_kept c.args.v.now) (list_seen c.read.new.v) (list_kept c.read.new.v) (λ s. read_of s c.args.path.now c.in-Read.off c.in-Read.len) (λ s. NoneDone s) c.read.result c.bytes_are_due.result c.requires.can c.read.ensures.leaves c.bytes_are_due.ensures
 
-pub returns-in-Read-clause-sound : goal.returns-in-Read-clause-sound
-returns-in-Read-clause-sound c = c.read.ensures.sound
-
-pub read-requires-clause-can : goal.read-requires-clause-can
-read-requires-clause-can c = c.requires.can
-
-pub read-requires-clause-sound : goal.read-requires-clause-sound
-read-requires-clause-sound c = c.requires.sound
-
-pub read-requires-clause-path : goal.read-requires-clause-path
-read-requires-clause-path c = c.requires.path
-
 pub returns-in-Truncate-clause-follows : goal.returns-in-Truncate-clause-follows
 returns-in-Truncate-clause-follows c = follows_end SaysDone c.args.shape.now (list_seen c.args.v.now) (list_kept c.args.v.now) (list_seen c.truncate.new.v) (list_kept c.truncate.new.v) (λ s. truncate_of s c.args.path.now c.in-Truncate.len) (λ s. NoneDone s) c.truncate.result c.done_is_due.result c.requires.can c.truncate.ensures.leaves c.done_is_due.ensures
 
-pub returns-in-Truncate-clause-sound : goal.returns-in-Truncate-clause-sound
-returns-in-Truncate-clause-sound c = c.truncate.ensures.sound
-
-pub truncate-requires-clause-can : goal.truncate-requires-clause-can
-truncate-requires-clause-can c = c.requires.can
-
-pub truncate-requires-clause-sound : goal.truncate-requires-clause-sound
-truncate-requires-clause-sound c = c.requires.sound
-
-pub truncate-requires-clause-path : goal.truncate-requires-clause-path
-truncate-requires-clause-path c = c.requires.path
-
 pub returns-in-Stat-clause-follows : goal.returns-in-Stat-clause-follows
 returns-in-Stat-clause-follows c = follows_end SaysStat c.args.shape.now (list_seen c.args.v.now) (list_kept c.args.v.now) (list_seen c.stat.new.v) (list_kept c.stat.new.v) (λ s. stat_of s c.args.path.now) (λ s. NoneDone s) c.stat.result c.stat_is_due.result c.requires.can c.stat.ensures.leaves c.stat_is_due.ensures
-
-pub returns-in-Stat-clause-sound : goal.returns-in-Stat-clause-sound
-returns-in-Stat-clause-sound c = c.stat.ensures.sound
-
-pub stat-requires-clause-can : goal.stat-requires-clause-can
-stat-requires-clause-can c = c.requires.can
-
-pub stat-requires-clause-sound : goal.stat-requires-clause-sound
-stat-requires-clause-sound c = c.requires.sound
-
-pub stat-requires-clause-path : goal.stat-requires-clause-path
-stat-requires-clause-path c = c.requires.path
-
-pub returns-in-Write-clause-follows : goal.returns-in-Write-clause-follows
-returns-in-Write-clause-follows c = c.write_as.ensures.follows
-
-pub returns-in-Write-clause-sound : goal.returns-in-Write-clause-sound
-returns-in-Write-clause-sound c = c.write_as.ensures.sound
-
-pub write_as-requires-clause-can : goal.write_as-requires-clause-can
-write_as-requires-clause-can c = c.requires.can
-
-pub write_as-requires-clause-sound : goal.write_as-requires-clause-sound
-write_as-requires-clause-sound c = c.requires.sound
-
-pub write_as-requires-clause-path : goal.write_as-requires-clause-path
-write_as-requires-clause-path c = c.requires.path
-
-pub names_as-requires-clause-can : goal.names_as-requires-clause-can
-names_as-requires-clause-can c = c.requires.can
-
-pub names_as-requires-clause-sound : goal.names_as-requires-clause-sound
-names_as-requires-clause-sound c = c.requires.sound
-
-pub names_as-requires-clause-path : goal.names_as-requires-clause-path
-names_as-requires-clause-path c = c.requires.path

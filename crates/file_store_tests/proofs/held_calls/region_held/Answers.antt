@@ -8,29 +8,8 @@ use Rattle.file_store_tests.proofs.held_calls.region_held.Goals as goal
 pub returns-clause-follows : goal.returns-clause-follows
 returns-clause-follows c = held_end SaysIno c.args.shape.now (list_seen c.args.v.now) (list_kept c.args.v.now) (list_seen c.make_region-answer.new.v) (list_kept c.make_region-answer.new.v) c.make_region-answer.new.memo (λ s. make_region_of s c.args.path.now c.args.data_pages c.args.undo_pages) (λ s. NoneDone s) c.make_region-answer.result c.node_is_due.result c.requires.can c.make_region-answer.ensures.leaves c.make_region-answer.ensures.in_step c.node_is_due.ensures
 
-pub make_region-answer-requires-clause-can : goal.make_region-answer-requires-clause-can
-make_region-answer-requires-clause-can c = c.requires.can
-
-pub make_region-answer-requires-clause-sound : goal.make_region-answer-requires-clause-sound
-make_region-answer-requires-clause-sound c = c.requires.sound
-
-pub make_region-answer-requires-clause-path : goal.make_region-answer-requires-clause-path
-make_region-answer-requires-clause-path c = c.requires.path
-
-pub make_region-answer-requires-clause-in_step : goal.make_region-answer-requires-clause-in_step
-make_region-answer-requires-clause-in_step c = c.requires.in_step
-
-pub returns-clause-sound : goal.returns-clause-sound
-returns-clause-sound c = c.make_region-answer.ensures.sound
-
 pub returns-then-data_pages-eq0-clause-follows : goal.returns-then-data_pages-eq0-clause-follows
 returns-then-data_pages-eq0-clause-follows c = held_ok _ _ _ _ _ c.requires.can c.requires.in_step
 
-pub returns-then-data_pages-eq0-clause-sound : goal.returns-then-data_pages-eq0-clause-sound
-returns-then-data_pages-eq0-clause-sound c = c.requires.sound
-
 pub returns-then-undo_pages-eq0-clause-follows : goal.returns-then-undo_pages-eq0-clause-follows
 returns-then-undo_pages-eq0-clause-follows c = held_ok _ _ _ _ _ c.requires.can c.requires.in_step
-
-pub returns-then-undo_pages-eq0-clause-sound : goal.returns-then-undo_pages-eq0-clause-sound
-returns-then-undo_pages-eq0-clause-sound c = c.requires.sound

@@ -10,26 +10,8 @@ use Rattle.file_store_tests.proofs.held_calls.rename_held.Goals as goal
 pub returns-clause-follows : goal.returns-clause-follows
 returns-clause-follows c = held_end SaysDone c.args.shape.now (list_seen c.args.v.now) (list_kept c.args.v.now) (list_seen c.rename-answer.new.v) (list_kept c.rename-answer.new.v) c.rename-answer.new.memo (λ s. rename_of s c.args.path.now c.args.to.now (ino_numbers c.from-busy.result)) (λ s. NoneDone s) c.rename-answer.result c.done_is_due.result c.requires.can c.rename-answer.ensures.leaves c.rename-answer.ensures.in_step c.done_is_due.ensures
 
-pub rename-answer-requires-clause-can : goal.rename-answer-requires-clause-can
-rename-answer-requires-clause-can c = c.requires.can
-
-pub rename-answer-requires-clause-sound : goal.rename-answer-requires-clause-sound
-rename-answer-requires-clause-sound c = c.requires.sound
-
-pub rename-answer-requires-clause-path : goal.rename-answer-requires-clause-path
-rename-answer-requires-clause-path c = c.requires.path
-
-pub rename-answer-requires-clause-in_step : goal.rename-answer-requires-clause-in_step
-rename-answer-requires-clause-in_step c = c.requires.in_step
-
-pub returns-clause-sound : goal.returns-clause-sound
-returns-clause-sound c = c.rename-answer.ensures.sound
-
 pub returns-then-not-is_path-clause-follows : goal.returns-then-not-is_path-clause-follows
 returns-then-not-is_path-clause-follows c = held_ok _ _ _ _ _ c.requires.can c.requires.in_step
-
-pub returns-then-not-is_path-clause-sound : goal.returns-then-not-is_path-clause-sound
-returns-then-not-is_path-clause-sound c = c.requires.sound
 
 pub rename-answer-requires-clause-to : goal.rename-answer-requires-clause-to
 rename-answer-requires-clause-to c = c.if-not-is_path.ensures.0 refl

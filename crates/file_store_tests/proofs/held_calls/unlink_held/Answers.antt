@@ -8,18 +8,3 @@ use Rattle.file_store_tests.proofs.held_calls.unlink_held.Goals as goal
 
 pub returns-clause-follows : goal.returns-clause-follows
 returns-clause-follows c = held_end SaysDone c.args.shape.now (list_seen c.args.v.now) (list_kept c.args.v.now) (list_seen c.unlink-answer.new.v) (list_kept c.unlink-answer.new.v) c.unlink-answer.new.memo (λ s. unlink_of s c.args.path.now (ino_numbers c.from-busy.result)) (λ s. NoneDone s) c.unlink-answer.result c.done_is_due.result c.requires.can c.unlink-answer.ensures.leaves c.unlink-answer.ensures.in_step c.done_is_due.ensures
-
-pub unlink-answer-requires-clause-can : goal.unlink-answer-requires-clause-can
-unlink-answer-requires-clause-can c = c.requires.can
-
-pub unlink-answer-requires-clause-sound : goal.unlink-answer-requires-clause-sound
-unlink-answer-requires-clause-sound c = c.requires.sound
-
-pub unlink-answer-requires-clause-path : goal.unlink-answer-requires-clause-path
-unlink-answer-requires-clause-path c = c.requires.path
-
-pub unlink-answer-requires-clause-in_step : goal.unlink-answer-requires-clause-in_step
-unlink-answer-requires-clause-in_step c = c.requires.in_step
-
-pub returns-clause-sound : goal.returns-clause-sound
-returns-clause-sound c = c.unlink-answer.ensures.sound

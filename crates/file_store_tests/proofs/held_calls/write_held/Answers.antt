@@ -7,18 +7,3 @@ use Rattle.file_store_tests.proofs.held_calls.write_held.Goals as goal
 
 pub returns-clause-follows : goal.returns-clause-follows
 returns-clause-follows c = held_end SaysCount c.args.shape.now (list_seen c.args.v.now) (list_kept c.args.v.now) (list_seen c.write-answer.new.v) (list_kept c.write-answer.new.v) c.write-answer.new.memo (λ s. write_of s c.args.path.now c.args.off c.args.bytes.now) (λ s. WriteDone s c.args.path.now c.args.off c.args.bytes.now (write_of s c.args.path.now c.args.off c.args.bytes.now)) c.write-answer.result c.count_is_due.result c.requires.can c.write-answer.ensures.leaves c.write-answer.ensures.in_step c.count_is_due.ensures
-
-pub write-answer-requires-clause-can : goal.write-answer-requires-clause-can
-write-answer-requires-clause-can c = c.requires.can
-
-pub write-answer-requires-clause-sound : goal.write-answer-requires-clause-sound
-write-answer-requires-clause-sound c = c.requires.sound
-
-pub write-answer-requires-clause-path : goal.write-answer-requires-clause-path
-write-answer-requires-clause-path c = c.requires.path
-
-pub write-answer-requires-clause-in_step : goal.write-answer-requires-clause-in_step
-write-answer-requires-clause-in_step c = c.requires.in_step
-
-pub returns-clause-sound : goal.returns-clause-sound
-returns-clause-sound c = c.write-answer.ensures.sound

@@ -49,50 +49,11 @@ returns-clause-goes g c = c.inode_of.ensures.goes then (g.met.V.Volume.passes_ke
 pub returns-clause-ends : goal.returns-clause-ends
 returns-clause-ends g c = after_well _ _ _ _ _ (well _ _ c.inode_of.result _ c.in_ok-inode.was c.inode_of.ensures.ends) c.look_up.ensures.ends
 
-pub inode_of-requires-clause-sound : goal.inode_of-requires-clause-sound
-inode_of-requires-clause-sound g c = c.requires.sound
-
-pub inode_of-requires-clause-can : goal.inode_of-requires-clause-can
-inode_of-requires-clause-can g c = c.requires.can
-
-pub look_up-requires-clause-sound : goal.look_up-requires-clause-sound
-look_up-requires-clause-sound g c = c.inode_of.ensures.sound
-
-pub look_up-requires-clause-shape : goal.look_up-requires-clause-shape
-look_up-requires-clause-shape g c = c.inode_of.ensures.can.ready.order.has_shape
-
-pub look_up-requires-clause-named : goal.look_up-requires-clause-named
-look_up-requires-clause-named g c = c.inode_of.ensures.can.ready.order.named
-
 pub look_up-requires-clause-reads : goal.look_up-requires-clause-reads
 look_up-requires-clause-reads g c = (c.inode_of.ensures.can.state, c.inode_of.ensures.can.reads)
 
 pub returns-in_err-inode-clause-found : goal.returns-in_err-inode-clause-found
 returns-in_err-inode-clause-found g c = let p = err_from_is_err_and c.from_residual.result c.from_residual.ensures.1 in never_some _ _ p.0 p.1
 
-pub returns-in_err-inode-clause-in_step : goal.returns-in_err-inode-clause-in_step
-returns-in_err-inode-clause-in_step g c = c.requires.in_step
-
-pub returns-in_err-inode-clause-leaves : goal.returns-in_err-inode-clause-leaves
-returns-in_err-inode-clause-leaves g c = c.inode_of.ensures.leaves
-
-pub returns-in_err-inode-clause-words : goal.returns-in_err-inode-clause-words
-returns-in_err-inode-clause-words g c = c.inode_of.ensures.words
-
-pub returns-in_err-inode-clause-can : goal.returns-in_err-inode-clause-can
-returns-in_err-inode-clause-can g c = c.inode_of.ensures.can
-
-pub returns-in_err-inode-clause-goes : goal.returns-in_err-inode-clause-goes
-returns-in_err-inode-clause-goes g c = c.inode_of.ensures.goes
-
-pub returns-in_err-inode-clause-sound : goal.returns-in_err-inode-clause-sound
-returns-in_err-inode-clause-sound g c = c.inode_of.ensures.sound
-
-pub returns-clause-other : goal.returns-clause-other
-returns-clause-other g c = c.look_up.ensures.other
-
 pub returns-clause-can : goal.returns-clause-can
 returns-clause-can g c = can_looked c.args.shape.now _ _ _ _ _ _ _ _ c.inode_of.ensures.can c.look_up.ensures.looks c.look_up.ensures.shape c.look_up.ensures.named (g.met.V.Volume.passes_keeps _ _ c.look_up.ensures.passes)
-
-pub returns-clause-sound : goal.returns-clause-sound
-returns-clause-sound g c = c.look_up.ensures.sound

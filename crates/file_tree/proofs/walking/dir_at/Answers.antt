@@ -55,24 +55,6 @@ returns-clause-ends g c = ends_ok _ _ _ (after_well _ _ _ _ _ (well _ _ c.walk.r
 pub returns-clause-inode : goal.returns-clause-inode
 returns-clause-inode g c = subst (λ f. IsInode f c.in_ok-dir.dir.0 c.in_ok-inode.inode) c.walk.ensures.words c.in_ok-inode.ensures.inode
 
-pub walk-requires-clause-sound : goal.walk-requires-clause-sound
-walk-requires-clause-sound g c = c.requires.sound
-
-pub walk-requires-clause-can : goal.walk-requires-clause-can
-walk-requires-clause-can g c = c.requires.can
-
-pub walk-requires-clause-in_step : goal.walk-requires-clause-in_step
-walk-requires-clause-in_step g c = c.requires.in_step
-
-pub must_be_dir-requires-clause-sound : goal.must_be_dir-requires-clause-sound
-must_be_dir-requires-clause-sound g c = c.walk.ensures.sound
-
-pub must_be_dir-requires-clause-shape : goal.must_be_dir-requires-clause-shape
-must_be_dir-requires-clause-shape g c = c.walk.ensures.can.ready.order.has_shape
-
-pub must_be_dir-requires-clause-named : goal.must_be_dir-requires-clause-named
-must_be_dir-requires-clause-named g c = c.walk.ensures.can.ready.order.named
-
 pub must_be_dir-requires-clause-reads : goal.must_be_dir-requires-clause-reads
 must_be_dir-requires-clause-reads g c = (c.walk.ensures.can.state, c.walk.ensures.can.reads)
 
@@ -82,50 +64,20 @@ returns-in_err-dir-clause-dir g c = let p = err_from_is_err_and c.from_residual.
 pub returns-in_err-dir-clause-inode : goal.returns-in_err-dir-clause-inode
 returns-in_err-dir-clause-inode g c = let p = err_from_is_err_and c.from_residual.result c.from_residual.ensures.1 in never_some _ _ p.0 p.1
 
-pub returns-in_err-dir-clause-in_step : goal.returns-in_err-dir-clause-in_step
-returns-in_err-dir-clause-in_step g c = c.walk.ensures.in_step
-
-pub returns-in_err-dir-clause-leaves : goal.returns-in_err-dir-clause-leaves
-returns-in_err-dir-clause-leaves g c = c.walk.ensures.leaves
-
-pub returns-in_err-dir-clause-words : goal.returns-in_err-dir-clause-words
-returns-in_err-dir-clause-words g c = c.walk.ensures.words
-
-pub returns-in_err-dir-clause-can : goal.returns-in_err-dir-clause-can
-returns-in_err-dir-clause-can g c = c.walk.ensures.can
-
-pub returns-in_err-dir-clause-goes : goal.returns-in_err-dir-clause-goes
-returns-in_err-dir-clause-goes g c = c.walk.ensures.goes
-
-pub returns-in_err-dir-clause-sound : goal.returns-in_err-dir-clause-sound
-returns-in_err-dir-clause-sound g c = c.walk.ensures.sound
-
 pub returns-in_err-inode-clause-dir : goal.returns-in_err-inode-clause-dir
 returns-in_err-inode-clause-dir g c = let p = err_from_is_err_and c.from_residual-in_err-inode.result c.from_residual-in_err-inode.ensures.1 in never_some _ _ p.0 p.1
 
 pub returns-in_err-inode-clause-inode : goal.returns-in_err-inode-clause-inode
 returns-in_err-inode-clause-inode g c = let p = err_from_is_err_and c.from_residual-in_err-inode.result c.from_residual-in_err-inode.ensures.1 in never_some _ _ p.0 p.1
 
-pub returns-in_err-inode-clause-in_step : goal.returns-in_err-inode-clause-in_step
-returns-in_err-inode-clause-in_step g c = c.walk.ensures.in_step
-
 pub returns-in_err-inode-clause-can : goal.returns-in_err-inode-clause-can
 returns-in_err-inode-clause-can g c = can_looked c.args.shape.now _ _ _ _ _ _ _ _ c.walk.ensures.can c.must_be_dir.ensures.looks c.must_be_dir.ensures.shape c.must_be_dir.ensures.named (g.met.V.Volume.passes_keeps _ _ c.must_be_dir.ensures.passes)
-
-pub returns-in_err-inode-clause-sound : goal.returns-in_err-inode-clause-sound
-returns-in_err-inode-clause-sound g c = c.must_be_dir.ensures.sound
 
 pub returns-in_err-inode-clause-words : goal.returns-in_err-inode-clause-words
 returns-in_err-inode-clause-words g c = c.must_be_dir.ensures.looks.words ∙ c.walk.ensures.words
 
-pub returns-clause-in_step : goal.returns-clause-in_step
-returns-clause-in_step g c = c.walk.ensures.in_step
-
 pub returns-clause-can : goal.returns-clause-can
 returns-clause-can g c = can_looked c.args.shape.now _ _ _ _ _ _ _ _ c.walk.ensures.can c.must_be_dir.ensures.looks c.must_be_dir.ensures.shape c.must_be_dir.ensures.named (g.met.V.Volume.passes_keeps _ _ c.must_be_dir.ensures.passes)
-
-pub returns-clause-sound : goal.returns-clause-sound
-returns-clause-sound g c = c.must_be_dir.ensures.sound
 
 pub returns-clause-words : goal.returns-clause-words
 returns-clause-words g c = c.must_be_dir.ensures.looks.words ∙ c.walk.ensures.words

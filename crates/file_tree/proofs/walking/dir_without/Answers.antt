@@ -103,24 +103,6 @@ returns-clause-goes g c = c.dir_at.ensures.goes then (g.met.V.Volume.passes_keep
 pub returns-clause-ends : goal.returns-clause-ends
 returns-clause-ends g c = ends_ok _ _ _ (after_well _ _ _ _ _ (well _ _ c.dir_at.result _ c.in_ok-dir.was c.dir_at.ensures.ends) (well _ _ c.look_up.result _ c.in_ok-look_up.was c.look_up.ensures.ends))
 
-pub dir_at-requires-clause-sound : goal.dir_at-requires-clause-sound
-dir_at-requires-clause-sound g c = c.requires.sound
-
-pub dir_at-requires-clause-can : goal.dir_at-requires-clause-can
-dir_at-requires-clause-can g c = c.requires.can
-
-pub dir_at-requires-clause-in_step : goal.dir_at-requires-clause-in_step
-dir_at-requires-clause-in_step g c = c.requires.in_step
-
-pub look_up-requires-clause-sound : goal.look_up-requires-clause-sound
-look_up-requires-clause-sound g c = c.dir_at.ensures.sound
-
-pub look_up-requires-clause-shape : goal.look_up-requires-clause-shape
-look_up-requires-clause-shape g c = c.dir_at.ensures.can.ready.order.has_shape
-
-pub look_up-requires-clause-named : goal.look_up-requires-clause-named
-look_up-requires-clause-named g c = c.dir_at.ensures.can.ready.order.named
-
 pub look_up-requires-clause-reads : goal.look_up-requires-clause-reads
 look_up-requires-clause-reads g c = (c.dir_at.ensures.can.state, c.dir_at.ensures.can.reads)
 
@@ -129,24 +111,6 @@ returns-in_err-dir-clause-dir g c = let p = err_from_is_err_and c.from_residual.
 
 pub returns-in_err-dir-clause-absent : goal.returns-in_err-dir-clause-absent
 returns-in_err-dir-clause-absent g c = let p = err_from_is_err_and c.from_residual.result c.from_residual.ensures.1 in never_some _ _ p.0 p.1
-
-pub returns-in_err-dir-clause-in_step : goal.returns-in_err-dir-clause-in_step
-returns-in_err-dir-clause-in_step g c = c.dir_at.ensures.in_step
-
-pub returns-in_err-dir-clause-leaves : goal.returns-in_err-dir-clause-leaves
-returns-in_err-dir-clause-leaves g c = c.dir_at.ensures.leaves
-
-pub returns-in_err-dir-clause-words : goal.returns-in_err-dir-clause-words
-returns-in_err-dir-clause-words g c = c.dir_at.ensures.words
-
-pub returns-in_err-dir-clause-can : goal.returns-in_err-dir-clause-can
-returns-in_err-dir-clause-can g c = c.dir_at.ensures.can
-
-pub returns-in_err-dir-clause-goes : goal.returns-in_err-dir-clause-goes
-returns-in_err-dir-clause-goes g c = c.dir_at.ensures.goes
-
-pub returns-in_err-dir-clause-sound : goal.returns-in_err-dir-clause-sound
-returns-in_err-dir-clause-sound g c = c.dir_at.ensures.sound
 
 pub returns-in_err-look_up-clause-dir : goal.returns-in_err-look_up-clause-dir
 returns-in_err-look_up-clause-dir g c = let p = err_from_is_err_and c.from_residual-in_err-look_up.result c.from_residual-in_err-look_up.ensures.1 in never_some _ _ p.0 p.1
@@ -157,23 +121,8 @@ returns-in_err-look_up-clause-absent g c = let p = err_from_is_err_and c.from_re
 pub returns-in_err-look_up-clause-can : goal.returns-in_err-look_up-clause-can
 returns-in_err-look_up-clause-can g c = can_looked c.args.shape.now _ _ _ _ _ _ _ _ c.dir_at.ensures.can c.look_up.ensures.looks c.look_up.ensures.shape c.look_up.ensures.named (g.met.V.Volume.passes_keeps _ _ c.look_up.ensures.passes)
 
-pub returns-in_err-look_up-clause-sound : goal.returns-in_err-look_up-clause-sound
-returns-in_err-look_up-clause-sound g c = c.look_up.ensures.sound
-
-pub returns-then-is_some-clause-dir : goal.returns-then-is_some-clause-dir
-returns-then-is_some-clause-dir g c = tt
-
-pub returns-then-is_some-clause-absent : goal.returns-then-is_some-clause-absent
-returns-then-is_some-clause-absent g c = tt
-
 pub returns-then-is_some-clause-can : goal.returns-then-is_some-clause-can
 returns-then-is_some-clause-can g c = can_looked c.args.shape.now _ _ _ _ _ _ _ _ c.dir_at.ensures.can c.look_up.ensures.looks c.look_up.ensures.shape c.look_up.ensures.named (g.met.V.Volume.passes_keeps _ _ c.look_up.ensures.passes)
 
-pub returns-then-is_some-clause-sound : goal.returns-then-is_some-clause-sound
-returns-then-is_some-clause-sound g c = c.look_up.ensures.sound
-
 pub returns-clause-can : goal.returns-clause-can
 returns-clause-can g c = can_looked c.args.shape.now _ _ _ _ _ _ _ _ c.dir_at.ensures.can c.look_up.ensures.looks c.look_up.ensures.shape c.look_up.ensures.named (g.met.V.Volume.passes_keeps _ _ c.look_up.ensures.passes)
-
-pub returns-clause-sound : goal.returns-clause-sound
-returns-clause-sound g c = c.look_up.ensures.sound

@@ -34,35 +34,11 @@ returns-in_err-inode-clause-ok g c = let p = err_from_is_err_and c.from_residual
 pub returns-in_err-inode-clause-inode : goal.returns-in_err-inode-clause-inode
 returns-in_err-inode-clause-inode g c = let p = err_from_is_err_and c.from_residual.result c.from_residual.ensures.1 in never_some _ _ p.0 p.1
 
-pub returns-then-inode-ne-DIRECTORY-clause-ok : goal.returns-then-inode-ne-DIRECTORY-clause-ok
-returns-then-inode-ne-DIRECTORY-clause-ok g c = tt
-
-pub returns-then-inode-ne-DIRECTORY-clause-inode : goal.returns-then-inode-ne-DIRECTORY-clause-inode
-returns-then-inode-ne-DIRECTORY-clause-inode g c = tt
-
-pub returns-clause-inode : goal.returns-clause-inode
-returns-clause-inode g c = c.in_ok-inode.ensures.value
-
-pub returns-clause-refused : goal.returns-clause-refused
-returns-clause-refused g c = tt
-
-pub returns-in_err-inode-clause-looks : goal.returns-in_err-inode-clause-looks
-returns-in_err-inode-clause-looks g c = c.read_inode.ensures.looks
-
 pub returns-in_err-inode-clause-shape : goal.returns-in_err-inode-clause-shape
 returns-in_err-inode-clause-shape g c = (inode_looked c.args.shape.now _ _ c.args.i.0 _ c.requires.shape c.requires.named c.requires.reads.1 c.requires.used c.read_inode.ensures.looks c.read_inode.ensures.caches).0
 
 pub returns-in_err-inode-clause-named : goal.returns-in_err-inode-clause-named
 returns-in_err-inode-clause-named g c = (inode_looked c.args.shape.now _ _ c.args.i.0 _ c.requires.shape c.requires.named c.requires.reads.1 c.requires.used c.read_inode.ensures.looks c.read_inode.ensures.caches).1
-
-pub returns-in_err-inode-clause-passes : goal.returns-in_err-inode-clause-passes
-returns-in_err-inode-clause-passes g c = c.read_inode.ensures.passes
-
-pub returns-in_err-inode-clause-sound : goal.returns-in_err-inode-clause-sound
-returns-in_err-inode-clause-sound g c = c.read_inode.ensures.sound
-
-pub returns-then-inode-ne-DIRECTORY-clause-looks : goal.returns-then-inode-ne-DIRECTORY-clause-looks
-returns-then-inode-ne-DIRECTORY-clause-looks g c = c.read_inode.ensures.looks
 
 pub returns-then-inode-ne-DIRECTORY-clause-shape : goal.returns-then-inode-ne-DIRECTORY-clause-shape
 returns-then-inode-ne-DIRECTORY-clause-shape g c = (inode_looked c.args.shape.now _ _ c.args.i.0 _ c.requires.shape c.requires.named c.requires.reads.1 c.requires.used c.read_inode.ensures.looks c.read_inode.ensures.caches).0
@@ -70,32 +46,11 @@ returns-then-inode-ne-DIRECTORY-clause-shape g c = (inode_looked c.args.shape.no
 pub returns-then-inode-ne-DIRECTORY-clause-named : goal.returns-then-inode-ne-DIRECTORY-clause-named
 returns-then-inode-ne-DIRECTORY-clause-named g c = (inode_looked c.args.shape.now _ _ c.args.i.0 _ c.requires.shape c.requires.named c.requires.reads.1 c.requires.used c.read_inode.ensures.looks c.read_inode.ensures.caches).1
 
-pub returns-then-inode-ne-DIRECTORY-clause-passes : goal.returns-then-inode-ne-DIRECTORY-clause-passes
-returns-then-inode-ne-DIRECTORY-clause-passes g c = c.read_inode.ensures.passes
-
-pub returns-then-inode-ne-DIRECTORY-clause-sound : goal.returns-then-inode-ne-DIRECTORY-clause-sound
-returns-then-inode-ne-DIRECTORY-clause-sound g c = c.read_inode.ensures.sound
-
-pub returns-clause-looks : goal.returns-clause-looks
-returns-clause-looks g c = c.read_inode.ensures.looks
-
 pub returns-clause-shape : goal.returns-clause-shape
 returns-clause-shape g c = (inode_looked c.args.shape.now _ _ c.args.i.0 _ c.requires.shape c.requires.named c.requires.reads.1 c.requires.used c.read_inode.ensures.looks c.read_inode.ensures.caches).0
 
 pub returns-clause-named : goal.returns-clause-named
 returns-clause-named g c = (inode_looked c.args.shape.now _ _ c.args.i.0 _ c.requires.shape c.requires.named c.requires.reads.1 c.requires.used c.read_inode.ensures.looks c.read_inode.ensures.caches).1
-
-pub returns-clause-passes : goal.returns-clause-passes
-returns-clause-passes g c = c.read_inode.ensures.passes
-
-pub returns-clause-sound : goal.returns-clause-sound
-returns-clause-sound g c = c.read_inode.ensures.sound
-
-pub read_inode-requires-clause-sound : goal.read_inode-requires-clause-sound
-read_inode-requires-clause-sound g c = c.requires.sound
-
-pub read_inode-requires-clause-shape : goal.read_inode-requires-clause-shape
-read_inode-requires-clause-shape g c = c.requires.shape
 
 pub read_inode-requires-clause-ino : goal.read_inode-requires-clause-ino
 read_inode-requires-clause-ino g c = used_ino _ (g.V.Blocks.seen c.args.v.now).words _ c.requires.used

@@ -14,50 +14,20 @@ returns-in_err-inode-clause-other g c = let p = err_from_is_err_and c.from_resid
 pub returns-in_err-inode-clause-ends : goal.returns-in_err-inode-clause-ends
 returns-in_err-inode-clause-ends g c = let p = err_from_is_err_and c.from_residual.result c.from_residual.ensures.1 in ends_vol _ _ c.read_inode.result c.from_residual.result _ p.0 c.in_err-inode.was p.1 p.2 c.read_inode.ensures.ends
 
-pub returns-in_err-inode-clause-looks : goal.returns-in_err-inode-clause-looks
-returns-in_err-inode-clause-looks g c = c.read_inode.ensures.looks
-
 pub returns-in_err-inode-clause-shape : goal.returns-in_err-inode-clause-shape
 returns-in_err-inode-clause-shape g c = (inode_looked c.args.shape.now _ _ c.args.i.0 _ c.requires.shape c.requires.named c.requires.reads.1 c.requires.used c.read_inode.ensures.looks c.read_inode.ensures.caches).0
 
 pub returns-in_err-inode-clause-named : goal.returns-in_err-inode-clause-named
 returns-in_err-inode-clause-named g c = (inode_looked c.args.shape.now _ _ c.args.i.0 _ c.requires.shape c.requires.named c.requires.reads.1 c.requires.used c.read_inode.ensures.looks c.read_inode.ensures.caches).1
 
-pub returns-in_err-inode-clause-passes : goal.returns-in_err-inode-clause-passes
-returns-in_err-inode-clause-passes g c = c.read_inode.ensures.passes
-
-pub returns-in_err-inode-clause-sound : goal.returns-in_err-inode-clause-sound
-returns-in_err-inode-clause-sound g c = c.read_inode.ensures.sound
-
-pub returns-clause-value : goal.returns-clause-value
-returns-clause-value g c = c.in_ok-inode.ensures.value
-
-pub returns-clause-other : goal.returns-clause-other
-returns-clause-other g c = tt
-
 pub returns-clause-ends : goal.returns-clause-ends
 returns-clause-ends g c = ends_ok _ _ _ (well_vol _ _ c.read_inode.result _ c.in_ok-inode.was c.read_inode.ensures.ends)
-
-pub returns-clause-looks : goal.returns-clause-looks
-returns-clause-looks g c = c.read_inode.ensures.looks
 
 pub returns-clause-shape : goal.returns-clause-shape
 returns-clause-shape g c = (inode_looked c.args.shape.now _ _ c.args.i.0 _ c.requires.shape c.requires.named c.requires.reads.1 c.requires.used c.read_inode.ensures.looks c.read_inode.ensures.caches).0
 
 pub returns-clause-named : goal.returns-clause-named
 returns-clause-named g c = (inode_looked c.args.shape.now _ _ c.args.i.0 _ c.requires.shape c.requires.named c.requires.reads.1 c.requires.used c.read_inode.ensures.looks c.read_inode.ensures.caches).1
-
-pub returns-clause-passes : goal.returns-clause-passes
-returns-clause-passes g c = c.read_inode.ensures.passes
-
-pub returns-clause-sound : goal.returns-clause-sound
-returns-clause-sound g c = c.read_inode.ensures.sound
-
-pub read_inode-requires-clause-sound : goal.read_inode-requires-clause-sound
-read_inode-requires-clause-sound g c = c.requires.sound
-
-pub read_inode-requires-clause-shape : goal.read_inode-requires-clause-shape
-read_inode-requires-clause-shape g c = c.requires.shape
 
 pub read_inode-requires-clause-ino : goal.read_inode-requires-clause-ino
 read_inode-requires-clause-ino g c = used_ino _ (g.V.Blocks.seen c.args.v.now).words _ c.requires.used

@@ -52,35 +52,11 @@ returns-in_err-i-clause-in_step g c = same_step c.args.shape.now _ _ _ (sym c.mu
 pub returns-clause-in_step : goal.returns-clause-in_step
 returns-clause-in_step g c = same_step c.args.shape.now _ _ _ (sym c.must_be_dir.ensures.looks.words) c.row_of.ensures.in_step
 
-pub must_be_dir-requires-clause-sound : goal.must_be_dir-requires-clause-sound
-must_be_dir-requires-clause-sound g c = c.requires.sound
-
-pub must_be_dir-requires-clause-used : goal.must_be_dir-requires-clause-used
-must_be_dir-requires-clause-used g c = c.requires.used
-
-pub row_of-requires-clause-sound : goal.row_of-requires-clause-sound
-row_of-requires-clause-sound g c = c.must_be_dir.ensures.sound
-
 pub returns-in_err-inode-clause-used : goal.returns-in_err-inode-clause-used
 returns-in_err-inode-clause-used g c = let p = err_from_is_err_and c.from_residual.result c.from_residual.ensures.1 in never_some _ _ p.0 p.1
 
-pub returns-in_err-inode-clause-in_step : goal.returns-in_err-inode-clause-in_step
-returns-in_err-inode-clause-in_step g c = c.requires.in_step
-
 pub returns-in_err-i-clause-used : goal.returns-in_err-i-clause-used
 returns-in_err-i-clause-used g c = let p = err_from_is_err_and c.from_residual-in_err-i.result c.from_residual-in_err-i.ensures.1 in never_some _ _ p.0 p.1
-
-pub must_be_dir-requires-clause-shape : goal.must_be_dir-requires-clause-shape
-must_be_dir-requires-clause-shape g c = c.requires.shape
-
-pub must_be_dir-requires-clause-named : goal.must_be_dir-requires-clause-named
-must_be_dir-requires-clause-named g c = c.requires.named
-
-pub must_be_dir-requires-clause-reads : goal.must_be_dir-requires-clause-reads
-must_be_dir-requires-clause-reads g c = c.requires.reads
-
-pub row_of-requires-clause-shape : goal.row_of-requires-clause-shape
-row_of-requires-clause-shape g c = c.must_be_dir.ensures.shape
 
 pub row_of-requires-clause-named : goal.row_of-requires-clause-named
 row_of-requires-clause-named g c = named_then c.args.shape.now _ _ _ (sym c.must_be_dir.ensures.looks.words) c.must_be_dir.ensures.named
@@ -88,26 +64,8 @@ row_of-requires-clause-named g c = named_then c.args.shape.now _ _ _ (sym c.must
 pub row_of-requires-clause-reads : goal.row_of-requires-clause-reads
 row_of-requires-clause-reads g c = reads_then c.args.shape.now _ _ (sym c.must_be_dir.ensures.looks.words) c.requires.reads
 
-pub returns-in_err-inode-clause-looks : goal.returns-in_err-inode-clause-looks
-returns-in_err-inode-clause-looks g c = c.must_be_dir.ensures.looks
-
-pub returns-in_err-inode-clause-shape : goal.returns-in_err-inode-clause-shape
-returns-in_err-inode-clause-shape g c = c.must_be_dir.ensures.shape
-
-pub returns-in_err-inode-clause-named : goal.returns-in_err-inode-clause-named
-returns-in_err-inode-clause-named g c = c.must_be_dir.ensures.named
-
-pub returns-in_err-inode-clause-passes : goal.returns-in_err-inode-clause-passes
-returns-in_err-inode-clause-passes g c = c.must_be_dir.ensures.passes
-
-pub returns-in_err-inode-clause-sound : goal.returns-in_err-inode-clause-sound
-returns-in_err-inode-clause-sound g c = c.must_be_dir.ensures.sound
-
 pub returns-in_err-i-clause-looks : goal.returns-in_err-i-clause-looks
 returns-in_err-i-clause-looks g c = looks_trans _ _ _ c.must_be_dir.ensures.looks c.row_of.ensures.looks
-
-pub returns-in_err-i-clause-shape : goal.returns-in_err-i-clause-shape
-returns-in_err-i-clause-shape g c = c.row_of.ensures.shape
 
 pub returns-in_err-i-clause-named : goal.returns-in_err-i-clause-named
 returns-in_err-i-clause-named g c = named_then c.args.shape.now _ _ _ c.must_be_dir.ensures.looks.words c.row_of.ensures.named
@@ -115,20 +73,11 @@ returns-in_err-i-clause-named g c = named_then c.args.shape.now _ _ _ c.must_be_
 pub returns-in_err-i-clause-passes : goal.returns-in_err-i-clause-passes
 returns-in_err-i-clause-passes g c = g.met.V.Blocks.passes_trans _ _ _ c.must_be_dir.ensures.passes c.row_of.ensures.passes
 
-pub returns-in_err-i-clause-sound : goal.returns-in_err-i-clause-sound
-returns-in_err-i-clause-sound g c = c.row_of.ensures.sound
-
 pub returns-clause-looks : goal.returns-clause-looks
 returns-clause-looks g c = looks_trans _ _ _ c.must_be_dir.ensures.looks c.row_of.ensures.looks
-
-pub returns-clause-shape : goal.returns-clause-shape
-returns-clause-shape g c = c.row_of.ensures.shape
 
 pub returns-clause-named : goal.returns-clause-named
 returns-clause-named g c = named_then c.args.shape.now _ _ _ c.must_be_dir.ensures.looks.words c.row_of.ensures.named
 
 pub returns-clause-passes : goal.returns-clause-passes
 returns-clause-passes g c = g.met.V.Blocks.passes_trans _ _ _ c.must_be_dir.ensures.passes c.row_of.ensures.passes
-
-pub returns-clause-sound : goal.returns-clause-sound
-returns-clause-sound g c = c.row_of.ensures.sound

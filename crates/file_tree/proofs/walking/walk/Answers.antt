@@ -34,35 +34,14 @@ returns-clause-in_step g c = record {
   path = λ s reads. c.keep.ensures s (c.walk_names.ensures.in_step.path s reads) (c.in_ok-i.ensures.value s reads);
 }
 
-pub walk_names-requires-clause-sound : goal.walk_names-requires-clause-sound
-walk_names-requires-clause-sound g c = c.requires.sound
-
-pub walk_names-requires-clause-shape : goal.walk_names-requires-clause-shape
-walk_names-requires-clause-shape g c = c.requires.can.ready.order.has_shape
-
-pub walk_names-requires-clause-named : goal.walk_names-requires-clause-named
-walk_names-requires-clause-named g c = c.requires.can.ready.order.named
-
 pub walk_names-requires-clause-reads : goal.walk_names-requires-clause-reads
 walk_names-requires-clause-reads g c = (c.requires.can.state, c.requires.can.reads)
-
-pub walk_names-requires-clause-in_step : goal.walk_names-requires-clause-in_step
-walk_names-requires-clause-in_step g c = c.requires.in_step
 
 pub returns-in-Some-clause-value : goal.returns-in-Some-clause-value
 returns-in-Some-clause-value g c = λ s reads. c.in-Some.ensures s (c.requires.in_step.path s reads)
 
-pub returns-in-Some-clause-in_step : goal.returns-in-Some-clause-in_step
-returns-in-Some-clause-in_step g c = c.requires.in_step
-
 pub returns-in-Some-clause-leaves : goal.returns-in-Some-clause-leaves
 returns-in-Some-clause-leaves g c = leaves_refl c.args.shape.now _ _ c.requires.can.ready
-
-pub returns-in-Some-clause-words : goal.returns-in-Some-clause-words
-returns-in-Some-clause-words g c = refl
-
-pub returns-in-Some-clause-can : goal.returns-in-Some-clause-can
-returns-in-Some-clause-can g c = c.requires.can
 
 pub returns-in-Some-clause-goes : goal.returns-in-Some-clause-goes
 returns-in-Some-clause-goes g c = goes_refl _ _
@@ -70,20 +49,11 @@ returns-in-Some-clause-goes g c = goes_refl _ _
 pub returns-in-Some-clause-ends : goal.returns-in-Some-clause-ends
 returns-in-Some-clause-ends g c = ends_ok _ _ _ (ends_by_well _ _ _ _ (le_refl _) refl (λ a. a) (λ a. a))
 
-pub returns-in-Some-clause-sound : goal.returns-in-Some-clause-sound
-returns-in-Some-clause-sound g c = c.requires.sound
-
 pub returns-in_err-i-clause-used : goal.returns-in_err-i-clause-used
 returns-in_err-i-clause-used g c = let p = err_from_is_err_and c.from_residual.result c.from_residual.ensures.1 in never_some _ _ p.0 p.1
 
-pub returns-in_err-i-clause-in_step : goal.returns-in_err-i-clause-in_step
-returns-in_err-i-clause-in_step g c = c.walk_names.ensures.in_step
-
 pub returns-in_err-i-clause-leaves : goal.returns-in_err-i-clause-leaves
 returns-in_err-i-clause-leaves g c = leaves_read c.args.shape.now _ _ _ _ _ _ _ _ c.requires.can.ready c.walk_names.ensures.looks c.walk_names.ensures.shape c.walk_names.ensures.named (g.met.V.Volume.passes_keeps _ _ c.walk_names.ensures.passes)
-
-pub returns-in_err-i-clause-words : goal.returns-in_err-i-clause-words
-returns-in_err-i-clause-words g c = c.walk_names.ensures.looks.words
 
 pub returns-in_err-i-clause-can : goal.returns-in_err-i-clause-can
 returns-in_err-i-clause-can g c = can_looked c.args.shape.now _ _ _ _ _ _ _ _ c.requires.can c.walk_names.ensures.looks c.walk_names.ensures.shape c.walk_names.ensures.named (g.met.V.Volume.passes_keeps _ _ c.walk_names.ensures.passes)
@@ -91,29 +61,14 @@ returns-in_err-i-clause-can g c = can_looked c.args.shape.now _ _ _ _ _ _ _ _ c.
 pub returns-in_err-i-clause-goes : goal.returns-in_err-i-clause-goes
 returns-in_err-i-clause-goes g c = (g.met.V.Volume.passes_keeps _ _ c.walk_names.ensures.passes).goes
 
-pub returns-in_err-i-clause-sound : goal.returns-in_err-i-clause-sound
-returns-in_err-i-clause-sound g c = c.walk_names.ensures.sound
-
-pub returns-clause-value : goal.returns-clause-value
-returns-clause-value g c = c.in_ok-i.ensures.value
-
-pub returns-clause-used : goal.returns-clause-used
-returns-clause-used g c = c.in_ok-i.ensures.used
-
 pub returns-clause-ends : goal.returns-clause-ends
 returns-clause-ends g c = ends_ok _ _ _ (well _ _ c.walk_names.result _ c.in_ok-i.was c.walk_names.ensures.ends)
 
 pub returns-clause-leaves : goal.returns-clause-leaves
 returns-clause-leaves g c = leaves_read c.args.shape.now _ _ _ _ _ _ _ _ c.requires.can.ready c.walk_names.ensures.looks c.walk_names.ensures.shape c.walk_names.ensures.named (g.met.V.Volume.passes_keeps _ _ c.walk_names.ensures.passes)
 
-pub returns-clause-words : goal.returns-clause-words
-returns-clause-words g c = c.walk_names.ensures.looks.words
-
 pub returns-clause-can : goal.returns-clause-can
 returns-clause-can g c = can_looked c.args.shape.now _ _ _ _ _ _ _ _ c.requires.can c.walk_names.ensures.looks c.walk_names.ensures.shape c.walk_names.ensures.named (g.met.V.Volume.passes_keeps _ _ c.walk_names.ensures.passes)
 
 pub returns-clause-goes : goal.returns-clause-goes
 returns-clause-goes g c = (g.met.V.Volume.passes_keeps _ _ c.walk_names.ensures.passes).goes
-
-pub returns-clause-sound : goal.returns-clause-sound
-returns-clause-sound g c = c.walk_names.ensures.sound

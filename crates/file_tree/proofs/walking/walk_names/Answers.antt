@@ -78,12 +78,6 @@ step-requires-clause-in_step g c = same_step c.args.shape.now _ _ _ c.loop-at.in
 pub returns-in_err-i-clause-in_step : goal.returns-in_err-i-clause-in_step
 returns-in_err-i-clause-in_step g c = same_step c.args.shape.now _ _ _ (sym c.loop-at.invariant.looks.words) c.step.ensures.in_step
 
-pub step-requires-clause-sound : goal.step-requires-clause-sound
-step-requires-clause-sound g c = c.loop-at.invariant.sound
-
-pub step-requires-clause-shape : goal.step-requires-clause-shape
-step-requires-clause-shape g c = c.loop-at.invariant.shape
-
 pub step-requires-clause-named : goal.step-requires-clause-named
 step-requires-clause-named g c = named_then c.args.shape.now _ _ _ (sym c.loop-at.invariant.looks.words) c.loop-at.invariant.named
 
@@ -96,35 +90,8 @@ returns-in_err-i-clause-used g c = let p = err_from_is_err_and c.from_residual.r
 pub returns-in_err-i-clause-looks : goal.returns-in_err-i-clause-looks
 returns-in_err-i-clause-looks g c = looks_trans _ _ _ c.loop-at.invariant.looks c.step.ensures.looks
 
-pub returns-in_err-i-clause-shape : goal.returns-in_err-i-clause-shape
-returns-in_err-i-clause-shape g c = c.step.ensures.shape
-
 pub returns-in_err-i-clause-named : goal.returns-in_err-i-clause-named
 returns-in_err-i-clause-named g c = named_then c.args.shape.now _ _ _ c.loop-at.invariant.looks.words c.step.ensures.named
 
 pub returns-in_err-i-clause-passes : goal.returns-in_err-i-clause-passes
 returns-in_err-i-clause-passes g c = g.met.V.Blocks.passes_trans _ _ _ c.loop-at.invariant.passes c.step.ensures.passes
-
-pub returns-in_err-i-clause-sound : goal.returns-in_err-i-clause-sound
-returns-in_err-i-clause-sound g c = c.step.ensures.sound
-
-pub returns-clause-used : goal.returns-clause-used
-returns-clause-used g c = c.loop-at.invariant.used
-
-pub returns-clause-in_step : goal.returns-clause-in_step
-returns-clause-in_step g c = c.loop-at.invariant.in_step
-
-pub returns-clause-looks : goal.returns-clause-looks
-returns-clause-looks g c = c.loop-at.invariant.looks
-
-pub returns-clause-shape : goal.returns-clause-shape
-returns-clause-shape g c = c.loop-at.invariant.shape
-
-pub returns-clause-named : goal.returns-clause-named
-returns-clause-named g c = c.loop-at.invariant.named
-
-pub returns-clause-passes : goal.returns-clause-passes
-returns-clause-passes g c = c.loop-at.invariant.passes
-
-pub returns-clause-sound : goal.returns-clause-sound
-returns-clause-sound g c = c.loop-at.invariant.sound

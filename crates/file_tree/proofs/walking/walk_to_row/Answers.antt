@@ -95,24 +95,6 @@ returns-in_err-ino-clause-in_step g c = same_step c.args.shape.now _ _ _ (sym c.
 pub returns-clause-in_step : goal.returns-clause-in_step
 returns-clause-in_step g c = same_step c.args.shape.now _ _ _ (sym c.dir_at.ensures.words) c.row_of.ensures.in_step
 
-pub dir_at-requires-clause-sound : goal.dir_at-requires-clause-sound
-dir_at-requires-clause-sound g c = c.requires.sound
-
-pub dir_at-requires-clause-can : goal.dir_at-requires-clause-can
-dir_at-requires-clause-can g c = c.requires.can
-
-pub dir_at-requires-clause-in_step : goal.dir_at-requires-clause-in_step
-dir_at-requires-clause-in_step g c = c.requires.in_step
-
-pub row_of-requires-clause-sound : goal.row_of-requires-clause-sound
-row_of-requires-clause-sound g c = c.dir_at.ensures.sound
-
-pub row_of-requires-clause-shape : goal.row_of-requires-clause-shape
-row_of-requires-clause-shape g c = c.dir_at.ensures.can.ready.order.has_shape
-
-pub row_of-requires-clause-named : goal.row_of-requires-clause-named
-row_of-requires-clause-named g c = c.dir_at.ensures.can.ready.order.named
-
 pub row_of-requires-clause-reads : goal.row_of-requires-clause-reads
 row_of-requires-clause-reads g c = (c.dir_at.ensures.can.state, c.dir_at.ensures.can.reads)
 
@@ -121,24 +103,6 @@ returns-in_err-dir-clause-row g c = let p = err_from_is_err_and c.from_residual.
 
 pub returns-in_err-dir-clause-used : goal.returns-in_err-dir-clause-used
 returns-in_err-dir-clause-used g c = let p = err_from_is_err_and c.from_residual.result c.from_residual.ensures.1 in never_some _ _ p.0 p.1
-
-pub returns-in_err-dir-clause-in_step : goal.returns-in_err-dir-clause-in_step
-returns-in_err-dir-clause-in_step g c = c.dir_at.ensures.in_step
-
-pub returns-in_err-dir-clause-leaves : goal.returns-in_err-dir-clause-leaves
-returns-in_err-dir-clause-leaves g c = c.dir_at.ensures.leaves
-
-pub returns-in_err-dir-clause-words : goal.returns-in_err-dir-clause-words
-returns-in_err-dir-clause-words g c = c.dir_at.ensures.words
-
-pub returns-in_err-dir-clause-can : goal.returns-in_err-dir-clause-can
-returns-in_err-dir-clause-can g c = c.dir_at.ensures.can
-
-pub returns-in_err-dir-clause-goes : goal.returns-in_err-dir-clause-goes
-returns-in_err-dir-clause-goes g c = c.dir_at.ensures.goes
-
-pub returns-in_err-dir-clause-sound : goal.returns-in_err-dir-clause-sound
-returns-in_err-dir-clause-sound g c = c.dir_at.ensures.sound
 
 pub returns-in_err-ino-clause-row : goal.returns-in_err-ino-clause-row
 returns-in_err-ino-clause-row g c = let p = err_from_is_err_and c.from_residual-in_err-ino.result c.from_residual-in_err-ino.ensures.1 in never_some _ _ p.0 p.1
@@ -149,17 +113,11 @@ returns-in_err-ino-clause-used g c = let p = err_from_is_err_and c.from_residual
 pub returns-in_err-ino-clause-can : goal.returns-in_err-ino-clause-can
 returns-in_err-ino-clause-can g c = can_looked c.args.shape.now _ _ _ _ _ _ _ _ c.dir_at.ensures.can c.row_of.ensures.looks c.row_of.ensures.shape c.row_of.ensures.named (g.met.V.Volume.passes_keeps _ _ c.row_of.ensures.passes)
 
-pub returns-in_err-ino-clause-sound : goal.returns-in_err-ino-clause-sound
-returns-in_err-ino-clause-sound g c = c.row_of.ensures.sound
-
 pub returns-in_err-ino-clause-words : goal.returns-in_err-ino-clause-words
 returns-in_err-ino-clause-words g c = c.row_of.ensures.looks.words ∙ c.dir_at.ensures.words
 
 pub returns-clause-can : goal.returns-clause-can
 returns-clause-can g c = can_looked c.args.shape.now _ _ _ _ _ _ _ _ c.dir_at.ensures.can c.row_of.ensures.looks c.row_of.ensures.shape c.row_of.ensures.named (g.met.V.Volume.passes_keeps _ _ c.row_of.ensures.passes)
-
-pub returns-clause-sound : goal.returns-clause-sound
-returns-clause-sound g c = c.row_of.ensures.sound
 
 pub returns-clause-words : goal.returns-clause-words
 returns-clause-words g c = c.row_of.ensures.looks.words ∙ c.dir_at.ensures.words

@@ -28,8 +28,5 @@ returns-in_err-words-clause-marked c = IfOk-from_err c.from_residual.result _ c.
 pub returns-clause-value : goal.returns-clause-value
 returns-clause-value c = take_at c.write_volume.new.words _ c.in_ok-words.words.len (c.write_volume.auto.words ∙ c.deref_mut.ensures.len) ∙ c.write_volume.ensures
 
-pub write_volume-requires-clause-shape : goal.write_volume-requires-clause-shape
-write_volume-requires-clause-shape c = c.requires
-
 pub write_volume-requires-clause-zeros : goal.write_volume-requires-clause-zeros
 write_volume-requires-clause-zeros c = c.deref_mut.ensures.value ∙ c.in_ok-words.ensures.items_if_clones_equal (λ y e. e)

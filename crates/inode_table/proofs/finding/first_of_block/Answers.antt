@@ -9,38 +9,20 @@ use Rattle.inode_table.proofs.Exits.{caches_at, ends_err, ends_none, inode_named
 use Rattle.inode_table.proofs.Used.{run_seen}
 use Rattle.inode_table.proofs.finding.first_of_block.Goals as goal
 
-pub word-requires-clause-sound : goal.word-requires-clause-sound
-word-requires-clause-sound g c = c.requires.sound
-
 pub word-requires-clause-place : goal.word-requires-clause-place
 word-requires-clause-place g c = inode_within c.args.shape.now _ _ c.args.first.0 0 c.requires.shape (omega (arith, c.requires.first)) c.requires.within c.inode_block-block.ensures (omega arith)
 
 pub word-requires-clause-name : goal.word-requires-clause-name
 word-requires-clause-name g c = inode_named c.args.shape.now _ _ c.args.first.0 c.requires.shape (omega (arith, c.requires.first)) c.requires.within c.inode_block-block.ensures
 
-pub page-requires-clause-sound : goal.page-requires-clause-sound
-page-requires-clause-sound g c = c.word.ensures.sound
-
 pub page-requires-clause-block : goal.page-requires-clause-block
 page-requires-clause-block g c = inode_there c.args.shape.now (g.V.Blocks.seen c.args.v.now) _ _ c.args.first.0 c.requires.shape (omega (arith, c.requires.first)) c.requires.within c.inode_block-block.ensures c.word.ensures.looks.count
-
-pub first_of_words-requires-clause-sound : goal.first_of_words-requires-clause-sound
-first_of_words-requires-clause-sound g c = c.word.ensures.sound
 
 pub first_of_words-requires-clause-shape : goal.first_of_words-requires-clause-shape
 first_of_words-requires-clause-shape g c = still_unnamed c.args.shape.now _ _ _ c.requires.shape c.word.ensures.looks.count c.word.ensures.caches
 
-pub first_of_words-requires-clause-first : goal.first_of_words-requires-clause-first
-first_of_words-requires-clause-first g c = c.requires.first
-
-pub first_of_words-requires-clause-within : goal.first_of_words-requires-clause-within
-first_of_words-requires-clause-within g c = c.requires.within
-
 pub returns-in_err-word-clause-value : goal.returns-in_err-word-clause-value
 returns-in_err-word-clause-value g c = not_ok _ c.from_residual.result c.from_residual.ensures.0
-
-pub returns-in_err-word-clause-looks : goal.returns-in_err-word-clause-looks
-returns-in_err-word-clause-looks g c = c.word.ensures.looks
 
 pub returns-in_err-word-clause-shape : goal.returns-in_err-word-clause-shape
 returns-in_err-word-clause-shape g c = still_unnamed c.args.shape.now _ _ _ c.requires.shape c.word.ensures.looks.count c.word.ensures.caches
@@ -48,19 +30,10 @@ returns-in_err-word-clause-shape g c = still_unnamed c.args.shape.now _ _ _ c.re
 pub returns-in_err-word-clause-caches : goal.returns-in_err-word-clause-caches
 returns-in_err-word-clause-caches g c = caches_at _ _ _ c.args.first.0 c.inode_block-block.ensures c.word.ensures.caches
 
-pub returns-in_err-word-clause-passes : goal.returns-in_err-word-clause-passes
-returns-in_err-word-clause-passes g c = c.word.ensures.passes
-
 pub returns-in_err-word-clause-ends : goal.returns-in_err-word-clause-ends
 returns-in_err-word-clause-ends g c =
     let p = err_from_is_err_and c.from_residual.result c.from_residual.ensures.1 in
     ends_err _ _ c.word.result c.from_residual.result _ p.0 c.in_err-word.was p.1 p.2 c.word.ensures.ends
-
-pub returns-in_err-word-clause-sound : goal.returns-in_err-word-clause-sound
-returns-in_err-word-clause-sound g c = c.word.ensures.sound
-
-pub returns-in-Some-clause-looks : goal.returns-in-Some-clause-looks
-returns-in-Some-clause-looks g c = c.word.ensures.looks
 
 pub returns-in-Some-clause-shape : goal.returns-in-Some-clause-shape
 returns-in-Some-clause-shape g c = still_unnamed c.args.shape.now _ _ _ c.requires.shape c.word.ensures.looks.count c.word.ensures.caches
@@ -68,23 +41,14 @@ returns-in-Some-clause-shape g c = still_unnamed c.args.shape.now _ _ _ c.requir
 pub returns-in-Some-clause-caches : goal.returns-in-Some-clause-caches
 returns-in-Some-clause-caches g c = caches_at _ _ _ c.args.first.0 c.inode_block-block.ensures c.word.ensures.caches
 
-pub returns-in-Some-clause-passes : goal.returns-in-Some-clause-passes
-returns-in-Some-clause-passes g c = c.word.ensures.passes
-
 pub returns-in-Some-clause-ends : goal.returns-in-Some-clause-ends
 returns-in-Some-clause-ends g c = ends_none _ _ _ c.in_ok-word.ensures.ends.later c.in_ok-word.ensures.ends.cause
-
-pub returns-in-Some-clause-sound : goal.returns-in-Some-clause-sound
-returns-in-Some-clause-sound g c = c.word.ensures.sound
 
 pub returns-clause-value : goal.returns-clause-value
 returns-clause-value g c = subst (λ (f : BlockWords). IfOk c.first_of_words.result (FindsBelow f c.args.first.0 32)) c.word.ensures.looks.words c.first_of_words.ensures.value
 
 pub returns-clause-looks : goal.returns-clause-looks
 returns-clause-looks g c = looks_trans _ _ _ c.word.ensures.looks c.first_of_words.ensures.looks
-
-pub returns-clause-shape : goal.returns-clause-shape
-returns-clause-shape g c = c.first_of_words.ensures.shape
 
 pub returns-clause-caches : goal.returns-clause-caches
 returns-clause-caches g c = caches_trans _ _ _ _ None (caches_at _ _ _ c.args.first.0 c.inode_block-block.ensures c.word.ensures.caches) c.first_of_words.ensures.caches
@@ -94,9 +58,6 @@ returns-clause-passes g c = g.met.V.Blocks.passes_trans _ _ _ c.word.ensures.pas
 
 pub returns-clause-ends : goal.returns-clause-ends
 returns-clause-ends g c = ends_later _ _ _ c.first_of_words.result c.in_ok-word.ensures.ends.later c.in_ok-word.ensures.ends.cause c.first_of_words.ensures.ends
-
-pub returns-clause-sound : goal.returns-clause-sound
-returns-clause-sound g c = c.first_of_words.ensures.sound
 
 pub returns-in-Some-clause-value : goal.returns-in-Some-clause-value
 returns-in-Some-clause-value g c = c.first_of_page.ensures (g.V.Blocks.seen c.args.v.now).words c.args.first.0 (omega (arith, c.requires.first)) c.requires.first (run_seen _ _ _ c.args.first.0 _ c.inode_block-block.ensures c.word.ensures.looks.words c.in-Some.ensures.words)

@@ -18,9 +18,6 @@ loop-n-init g c = record {
   running = refl;
 }
 
-pub word-requires-clause-sound : goal.word-requires-clause-sound
-word-requires-clause-sound g c = c.loop-n.invariant.sound
-
 pub word-requires-clause-place : goal.word-requires-clause-place
 word-requires-clause-place g c = inode_within c.args.shape.now _ _ c.args.first.0 _ c.loop-n.invariant.shape (omega (arith, c.requires.first)) c.requires.within c.inode_block-block.ensures (omega (arith, c.loop-n-test.true))
 
@@ -47,9 +44,6 @@ returns-in_err-word-clause-ends g c =
     let p = err_from_is_err_and c.from_residual.result c.from_residual.ensures.1 in
     ends_later _ _ _ c.from_residual.result c.loop-n.invariant.later c.loop-n.invariant.running (ends_err _ _ c.word.result c.from_residual.result _ p.0 c.in_err-word.was p.1 p.2 c.word.ensures.ends)
 
-pub returns-in_err-word-clause-sound : goal.returns-in_err-word-clause-sound
-returns-in_err-word-clause-sound g c = c.word.ensures.sound
-
 pub returns-then-branch-eq0-clause-value : goal.returns-then-branch-eq0-clause-value
 returns-then-branch-eq0-clause-value g c = free_word _ _ _ c.args.first.0 c.loop-n.n _ c.requires.first c.loop-n-test.true c.inode_block-block.ensures c.loop-n.invariant.looks.words c.in_ok-word.ensures.value c.if-branch-eq0.true c.loop-n.invariant.used
 
@@ -67,9 +61,6 @@ returns-then-branch-eq0-clause-passes g c = g.met.V.Blocks.passes_trans _ _ _ c.
 
 pub returns-then-branch-eq0-clause-ends : goal.returns-then-branch-eq0-clause-ends
 returns-then-branch-eq0-clause-ends g c = ends_none _ _ _ (le_trans c.loop-n.invariant.later c.in_ok-word.ensures.ends.later) (c.in_ok-word.ensures.ends.cause ∙ c.loop-n.invariant.running)
-
-pub returns-then-branch-eq0-clause-sound : goal.returns-then-branch-eq0-clause-sound
-returns-then-branch-eq0-clause-sound g c = c.word.ensures.sound
 
 pub loop-n-preserved : goal.loop-n-preserved
 loop-n-preserved g c =
@@ -89,20 +80,5 @@ loop-n-preserved g c =
 pub returns-clause-value : goal.returns-clause-value
 returns-clause-value g c = used_less _ c.args.first.0 c.loop-n.n 32 (omega (arith, c.loop-n-test.false)) c.loop-n.invariant.used
 
-pub returns-clause-looks : goal.returns-clause-looks
-returns-clause-looks g c = c.loop-n.invariant.looks
-
-pub returns-clause-shape : goal.returns-clause-shape
-returns-clause-shape g c = c.loop-n.invariant.shape
-
-pub returns-clause-caches : goal.returns-clause-caches
-returns-clause-caches g c = c.loop-n.invariant.caches
-
-pub returns-clause-passes : goal.returns-clause-passes
-returns-clause-passes g c = c.loop-n.invariant.passes
-
 pub returns-clause-ends : goal.returns-clause-ends
 returns-clause-ends g c = ends_none _ _ _ c.loop-n.invariant.later c.loop-n.invariant.running
-
-pub returns-clause-sound : goal.returns-clause-sound
-returns-clause-sound g c = c.loop-n.invariant.sound

@@ -21,15 +21,6 @@ loop-first-init g c = record {
   running = refl;
 }
 
-pub first_of_block-requires-clause-sound : goal.first_of_block-requires-clause-sound
-first_of_block-requires-clause-sound g c = c.loop-first.invariant.sound
-
-pub first_of_block-requires-clause-shape : goal.first_of_block-requires-clause-shape
-first_of_block-requires-clause-shape g c = c.loop-first.invariant.shape
-
-pub first_of_block-requires-clause-first : goal.first_of_block-requires-clause-first
-first_of_block-requires-clause-first g c = c.loop-first.invariant.start
-
 pub first_of_block-requires-clause-within : goal.first_of_block-requires-clause-within
 first_of_block-requires-clause-within g c = c.loop-first-test.true
 
@@ -38,9 +29,6 @@ returns-in_err-k-clause-value g c = not_ok _ c.from_residual.result c.from_resid
 
 pub returns-in_err-k-clause-looks : goal.returns-in_err-k-clause-looks
 returns-in_err-k-clause-looks g c = looks_trans _ _ _ c.loop-first.invariant.looks c.first_of_block.ensures.looks
-
-pub returns-in_err-k-clause-shape : goal.returns-in_err-k-clause-shape
-returns-in_err-k-clause-shape g c = c.first_of_block.ensures.shape
 
 pub returns-in_err-k-clause-caches : goal.returns-in_err-k-clause-caches
 returns-in_err-k-clause-caches g c = caches_more c.args.shape.now _ _ _ c.loop-first.first c.requires.shape.sizes c.loop-first.invariant.from c.loop-first-test.true c.loop-first.invariant.caches c.first_of_block.ensures.caches
@@ -53,17 +41,11 @@ returns-in_err-k-clause-ends g c =
     let p = err_from_is_err_and c.from_residual.result c.from_residual.ensures.1 in
     ends_later _ _ _ c.from_residual.result c.loop-first.invariant.later c.loop-first.invariant.running (ends_err _ _ c.first_of_block.result c.from_residual.result _ p.0 c.in_err-k.was p.1 p.2 c.first_of_block.ensures.ends)
 
-pub returns-in_err-k-clause-sound : goal.returns-in_err-k-clause-sound
-returns-in_err-k-clause-sound g c = c.first_of_block.ensures.sound
-
 pub returns-in-Some-clause-value : goal.returns-in-Some-clause-value
 returns-in-Some-clause-value g c = found c.args.shape.now _ c.loop-first.first c.in-Some.k c.requires.shape.sizes c.loop-first.invariant.from c.loop-first.invariant.start c.loop-first-test.true c.loop-first.invariant.used (below_as _ _ c.loop-first.first 32 _ (Some c.in-Some.k) c.loop-first.invariant.looks.words c.in-Some.is c.in_ok-k.ensures.value)
 
 pub returns-in-Some-clause-looks : goal.returns-in-Some-clause-looks
 returns-in-Some-clause-looks g c = looks_trans _ _ _ c.loop-first.invariant.looks c.first_of_block.ensures.looks
-
-pub returns-in-Some-clause-shape : goal.returns-in-Some-clause-shape
-returns-in-Some-clause-shape g c = c.first_of_block.ensures.shape
 
 pub returns-in-Some-clause-caches : goal.returns-in-Some-clause-caches
 returns-in-Some-clause-caches g c = caches_more c.args.shape.now _ _ _ c.loop-first.first c.requires.shape.sizes c.loop-first.invariant.from c.loop-first-test.true c.loop-first.invariant.caches c.first_of_block.ensures.caches
@@ -73,9 +55,6 @@ returns-in-Some-clause-passes g c = g.met.V.Blocks.passes_trans _ _ _ c.loop-fir
 
 pub returns-in-Some-clause-ends : goal.returns-in-Some-clause-ends
 returns-in-Some-clause-ends g c = ends_none _ _ _ (le_trans c.loop-first.invariant.later c.in_ok-k.ensures.ends.later) (c.in_ok-k.ensures.ends.cause ∙ c.loop-first.invariant.running)
-
-pub returns-in-Some-clause-sound : goal.returns-in-Some-clause-sound
-returns-in-Some-clause-sound g c = c.first_of_block.ensures.sound
 
 pub loop-first-preserved : goal.loop-first-preserved
 loop-first-preserved g c =
@@ -97,20 +76,5 @@ loop-first-preserved g c =
 pub returns-clause-value : goal.returns-clause-value
 returns-clause-value g c = used_less _ 1 (c.loop-first.first - 1) c.args.shape.now.inodes (omega (arith, c.loop-first-test.false)) c.loop-first.invariant.used
 
-pub returns-clause-looks : goal.returns-clause-looks
-returns-clause-looks g c = c.loop-first.invariant.looks
-
-pub returns-clause-shape : goal.returns-clause-shape
-returns-clause-shape g c = c.loop-first.invariant.shape
-
-pub returns-clause-caches : goal.returns-clause-caches
-returns-clause-caches g c = c.loop-first.invariant.caches
-
-pub returns-clause-passes : goal.returns-clause-passes
-returns-clause-passes g c = c.loop-first.invariant.passes
-
 pub returns-clause-ends : goal.returns-clause-ends
 returns-clause-ends g c = ends_none _ _ _ c.loop-first.invariant.later c.loop-first.invariant.running
-
-pub returns-clause-sound : goal.returns-clause-sound
-returns-clause-sound g c = c.loop-first.invariant.sound

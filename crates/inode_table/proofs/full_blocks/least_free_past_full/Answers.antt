@@ -22,12 +22,6 @@ loop-k-init g c = record {
   running = refl;
 }
 
-pub first_of_block-requires-clause-sound : goal.first_of_block-requires-clause-sound
-first_of_block-requires-clause-sound g c = c.loop-k.invariant.sound
-
-pub first_of_block-requires-clause-shape : goal.first_of_block-requires-clause-shape
-first_of_block-requires-clause-shape g c = c.loop-k.invariant.shape
-
 pub first_of_block-requires-clause-first : goal.first_of_block-requires-clause-first
 first_of_block-requires-clause-first g c = omega arith
 
@@ -37,14 +31,8 @@ first_of_block-requires-clause-within g c = omega (arith, c.loop-k-test.true)
 pub returns-in_err-n-clause-value : goal.returns-in_err-n-clause-value
 returns-in_err-n-clause-value g c = not_ok _ c.from_residual.result c.from_residual.ensures.0
 
-pub returns-in_err-n-clause-known : goal.returns-in_err-n-clause-known
-returns-in_err-n-clause-known g c = c.loop-k.invariant.known
-
 pub returns-in_err-n-clause-looks : goal.returns-in_err-n-clause-looks
 returns-in_err-n-clause-looks g c = looks_trans _ _ _ c.loop-k.invariant.looks c.first_of_block.ensures.looks
-
-pub returns-in_err-n-clause-shape : goal.returns-in_err-n-clause-shape
-returns-in_err-n-clause-shape g c = c.first_of_block.ensures.shape
 
 pub returns-in_err-n-clause-caches : goal.returns-in_err-n-clause-caches
 returns-in_err-n-clause-caches g c = caches_more c.args.shape.now _ _ _ (32 * c.loop-k.k + 1) c.requires.shape.sizes (omega arith) (omega (arith, c.loop-k-test.true)) c.loop-k.invariant.caches c.first_of_block.ensures.caches
@@ -57,20 +45,11 @@ returns-in_err-n-clause-ends g c =
     let p = err_from_is_err_and c.from_residual.result c.from_residual.ensures.1 in
     ends_later _ _ _ c.from_residual.result c.loop-k.invariant.later c.loop-k.invariant.running (ends_err _ _ c.first_of_block.result c.from_residual.result _ p.0 c.in_err-n.was p.1 p.2 c.first_of_block.ensures.ends)
 
-pub returns-in_err-n-clause-sound : goal.returns-in_err-n-clause-sound
-returns-in_err-n-clause-sound g c = c.first_of_block.ensures.sound
-
 pub returns-in-Some-clause-value : goal.returns-in-Some-clause-value
 returns-in-Some-clause-value g c = found_past c.args.shape.now _ c.loop-k.k c.in-Some.n c.requires.shape.sizes c.loop-k-test.true c.loop-k.invariant.used (below_as _ _ (32 * c.loop-k.k + 1) 32 _ (Some c.in-Some.n) c.loop-k.invariant.looks.words c.in-Some.is c.in_ok-n.ensures.value)
 
-pub returns-in-Some-clause-known : goal.returns-in-Some-clause-known
-returns-in-Some-clause-known g c = c.loop-k.invariant.known
-
 pub returns-in-Some-clause-looks : goal.returns-in-Some-clause-looks
 returns-in-Some-clause-looks g c = looks_trans _ _ _ c.loop-k.invariant.looks c.first_of_block.ensures.looks
-
-pub returns-in-Some-clause-shape : goal.returns-in-Some-clause-shape
-returns-in-Some-clause-shape g c = c.first_of_block.ensures.shape
 
 pub returns-in-Some-clause-caches : goal.returns-in-Some-clause-caches
 returns-in-Some-clause-caches g c = caches_more c.args.shape.now _ _ _ (32 * c.loop-k.k + 1) c.requires.shape.sizes (omega arith) (omega (arith, c.loop-k-test.true)) c.loop-k.invariant.caches c.first_of_block.ensures.caches
@@ -80,9 +59,6 @@ returns-in-Some-clause-passes g c = g.met.V.Blocks.passes_trans _ _ _ c.loop-k.i
 
 pub returns-in-Some-clause-ends : goal.returns-in-Some-clause-ends
 returns-in-Some-clause-ends g c = ends_none _ _ _ (le_trans c.loop-k.invariant.later c.in_ok-n.ensures.ends.later) (c.in_ok-n.ensures.ends.cause ∙ c.loop-k.invariant.running)
-
-pub returns-in-Some-clause-sound : goal.returns-in-Some-clause-sound
-returns-in-Some-clause-sound g c = c.first_of_block.ensures.sound
 
 pub loop-k-preserved : goal.loop-k-preserved
 loop-k-preserved g c =
@@ -107,23 +83,5 @@ loop-k-preserved g c =
 pub returns-clause-value : goal.returns-clause-value
 returns-clause-value g c = all_past c.args.shape.now _ c.loop-k.k c.requires.shape.sizes (omega (arith, c.loop-k-test.false)) c.loop-k.invariant.used
 
-pub returns-clause-known : goal.returns-clause-known
-returns-clause-known g c = c.loop-k.invariant.known
-
-pub returns-clause-looks : goal.returns-clause-looks
-returns-clause-looks g c = c.loop-k.invariant.looks
-
-pub returns-clause-shape : goal.returns-clause-shape
-returns-clause-shape g c = c.loop-k.invariant.shape
-
-pub returns-clause-caches : goal.returns-clause-caches
-returns-clause-caches g c = c.loop-k.invariant.caches
-
-pub returns-clause-passes : goal.returns-clause-passes
-returns-clause-passes g c = c.loop-k.invariant.passes
-
 pub returns-clause-ends : goal.returns-clause-ends
 returns-clause-ends g c = ends_none _ _ _ c.loop-k.invariant.later c.loop-k.invariant.running
-
-pub returns-clause-sound : goal.returns-clause-sound
-returns-clause-sound g c = c.loop-k.invariant.sound

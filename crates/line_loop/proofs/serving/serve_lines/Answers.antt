@@ -25,12 +25,6 @@ loop-request-init g c =
       spent = λ told. absurd (cc (unended, told));
     }
 
-pub ask-requires-clause-within : goal.ask-requires-clause-within
-ask-requires-clause-within g c = c.loop-request.invariant.within
-
-pub ask-requires-clause-spent : goal.ask-requires-clause-spent
-ask-requires-clause-spent g c = c.loop-request.invariant.spent
-
 -- ---- no line came
 
 pub returns-in-Err-clause-run : goal.returns-in-Err-clause-run
@@ -59,26 +53,11 @@ returns-in-Err-clause-sink_later g c =
     let same = c.loop-request.invariant.steady in
     omega (arith, later, same)
 
-pub returns-in-Err-clause-stopped : goal.returns-in-Err-clause-stopped
-returns-in-Err-clause-stopped g c = tt
-
-pub returns-in-Err-clause-halted : goal.returns-in-Err-clause-halted
-returns-in-Err-clause-halted g c = tt
-
-pub returns-in-Err-clause-limit : goal.returns-in-Err-clause-limit
-returns-in-Err-clause-limit g c = c.loop-request.invariant.limit
-
 pub returns-in-Err-clause-source_fault : goal.returns-in-Err-clause-source_fault
 returns-in-Err-clause-source_fault g c = λ is. rose_later _ _ _ c.loop-request.invariant.later (c.in-Err.ensures.cause (ap Err is))
 
-pub returns-in-Err-clause-steady_stop : goal.returns-in-Err-clause-steady_stop
-returns-in-Err-clause-steady_stop g c = tt
-
 pub returns-in-Err-clause-later : goal.returns-in-Err-clause-later
 returns-in-Err-clause-later g c = le_trans c.loop-request.invariant.later c.in-Err.ensures.later
-
-pub returns-in-Err-clause-sound : goal.returns-in-Err-clause-sound
-returns-in-Err-clause-sound g c = c.loop-request.invariant.sound
 
 -- ---- what waited was refused, before the line was answered
 
@@ -97,17 +76,8 @@ returns-in-Err-make_way-clause-run g c =
 pub returns-in-Err-make_way-clause-sink_fault : goal.returns-in-Err-make_way-clause-sink_fault
 returns-in-Err-make_way-clause-sink_fault g c = λ is. subst (λ n. Rose n (g.K.Sink.faults c.make_way.new.sink)) (c.in-Ok.ensures.waits.steady ∙ c.loop-request.invariant.steady) c.in-Err-make_way.ensures.err.cut.rose
 
-pub returns-in-Err-make_way-clause-stopped : goal.returns-in-Err-make_way-clause-stopped
-returns-in-Err-make_way-clause-stopped g c = tt
-
-pub returns-in-Err-make_way-clause-halted : goal.returns-in-Err-make_way-clause-halted
-returns-in-Err-make_way-clause-halted g c = tt
-
 pub returns-in-Err-make_way-clause-other : goal.returns-in-Err-make_way-clause-other
 returns-in-Err-make_way-clause-other g c = sink_no_stop
-
-pub returns-in-Err-make_way-clause-limit : goal.returns-in-Err-make_way-clause-limit
-returns-in-Err-make_way-clause-limit g c = c.loop-request.invariant.limit
 
 pub returns-in-Err-make_way-clause-source_fault : goal.returns-in-Err-make_way-clause-source_fault
 returns-in-Err-make_way-clause-source_fault g c = sink_no_source
@@ -115,17 +85,11 @@ returns-in-Err-make_way-clause-source_fault g c = sink_no_source
 pub returns-in-Err-make_way-clause-steady : goal.returns-in-Err-make_way-clause-steady
 returns-in-Err-make_way-clause-steady g c = λ other. absurd (other refl)
 
-pub returns-in-Err-make_way-clause-steady_stop : goal.returns-in-Err-make_way-clause-steady_stop
-returns-in-Err-make_way-clause-steady_stop g c = tt
-
 pub returns-in-Err-make_way-clause-later : goal.returns-in-Err-make_way-clause-later
 returns-in-Err-make_way-clause-later g c = le_trans c.loop-request.invariant.later c.in-Ok.ensures.later
 
 pub returns-in-Err-make_way-clause-sink_later : goal.returns-in-Err-make_way-clause-sink_later
 returns-in-Err-make_way-clause-sink_later g c = later_than (c.in-Ok.ensures.waits.steady ∙ c.loop-request.invariant.steady) c.in-Err-make_way.ensures.err.cut.later
-
-pub returns-in-Err-make_way-clause-sound : goal.returns-in-Err-make_way-clause-sound
-returns-in-Err-make_way-clause-sound g c = c.loop-request.invariant.sound
 
 -- ---- the line was answered, or the machine stopped
 
@@ -150,9 +114,6 @@ returns-in_err-reply-clause-stopped g c =
     (ap (λ (r : Reading). r.held) c.requires.fresh) (ap (λ (r : Reading). r.taken) c.requires.fresh) way c.in-Ok.ensures.line
     (λ some. none_waits server.protocol server.does server.calm c.in-Ok.request c.effect_of_line-effect.result c.may_wait-waits.result c.still_gathers-gathering.result c.loop-request.gathering c.make_way.new.waiting (server.health mid) (server.below mid) (server.health core) (server.below core) g.met.C.LineServer.runs_on c.effect_of_line-effect.ensures c.may_wait-waits.ensures (λ told. (c.still_gathers-gathering.ensures told).0) c.loop-request.invariant.calm some c.in_err-reply.ensures.stopped c.in-Ok-make_way.ensures.none)
     c.in_err-reply.ensures.answered c.in_err-reply.ensures.stopped
-
-pub reply_to-requires-clause-sound : goal.reply_to-requires-clause-sound
-reply_to-requires-clause-sound g c = c.loop-request.invariant.sound
 
 pub returns-in_err-reply-clause-run : goal.returns-in_err-reply-clause-run
 returns-in_err-reply-clause-run g c = IfOk-from_err c.from_residual.result _ c.from_residual.ensures.0
@@ -184,9 +145,6 @@ returns-in_err-reply-clause-later g c = le_trans c.loop-request.invariant.later 
 pub returns-in_err-reply-clause-sink_later : goal.returns-in_err-reply-clause-sink_later
 returns-in_err-reply-clause-sink_later g c = stayed (c.in-Ok-make_way.ensures.ok.steady ∙ c.in-Ok.ensures.waits.steady ∙ c.loop-request.invariant.steady)
 
-pub returns-in_err-reply-clause-sound : goal.returns-in_err-reply-clause-sound
-returns-in_err-reply-clause-sound g c = c.reply_to.ensures.sound
-
 -- ---- its reply was refused, or what waited before it
 
 pub returns-in-Err-add-clause-run : goal.returns-in-Err-add-clause-run
@@ -210,12 +168,6 @@ returns-in-Err-add-clause-limit g c = limit_trans _ _ _ c.loop-request.invariant
 pub returns-in-Err-add-clause-sink_fault : goal.returns-in-Err-add-clause-sink_fault
 returns-in-Err-add-clause-sink_fault g c = λ is. subst (λ n. Rose n (g.K.Sink.faults c.add.new.sink)) (c.in-Ok-make_way.ensures.ok.steady ∙ c.in-Ok.ensures.waits.steady ∙ c.loop-request.invariant.steady) c.in-Err-add.ensures.sends.err.rose
 
-pub returns-in-Err-add-clause-stopped : goal.returns-in-Err-add-clause-stopped
-returns-in-Err-add-clause-stopped g c = tt
-
-pub returns-in-Err-add-clause-halted : goal.returns-in-Err-add-clause-halted
-returns-in-Err-add-clause-halted g c = tt
-
 pub returns-in-Err-add-clause-other : goal.returns-in-Err-add-clause-other
 returns-in-Err-add-clause-other g c = sink_no_stop
 
@@ -225,17 +177,11 @@ returns-in-Err-add-clause-source_fault g c = sink_no_source
 pub returns-in-Err-add-clause-steady : goal.returns-in-Err-add-clause-steady
 returns-in-Err-add-clause-steady g c = λ other. absurd (other refl)
 
-pub returns-in-Err-add-clause-steady_stop : goal.returns-in-Err-add-clause-steady_stop
-returns-in-Err-add-clause-steady_stop g c = tt
-
 pub returns-in-Err-add-clause-later : goal.returns-in-Err-add-clause-later
 returns-in-Err-add-clause-later g c = le_trans c.loop-request.invariant.later c.in-Ok.ensures.later
 
 pub returns-in-Err-add-clause-sink_later : goal.returns-in-Err-add-clause-sink_later
 returns-in-Err-add-clause-sink_later g c = later_than (c.in-Ok-make_way.ensures.ok.steady ∙ c.in-Ok.ensures.waits.steady ∙ c.loop-request.invariant.steady) c.in-Err-add.ensures.sends.err.later
-
-pub returns-in-Err-add-clause-sound : goal.returns-in-Err-add-clause-sound
-returns-in-Err-add-clause-sound g c = c.reply_to.ensures.sound
 
 -- ---- the next line
 

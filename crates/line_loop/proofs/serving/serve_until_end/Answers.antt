@@ -28,9 +28,6 @@ returns-in_default-clause-limit g c = limit_refl _
 pub returns-in_default-clause-limited : goal.returns-in_default-clause-limited
 returns-in_default-clause-limited g c = g.met.C.LineServer.limited c.args.core.now
 
-pub returns-in_default-clause-sound : goal.returns-in_default-clause-sound
-returns-in_default-clause-sound g c = c.requires.sound
-
 pub returns-in_default-clause-source_fault : goal.returns-in_default-clause-source_fault
 returns-in_default-clause-source_fault g c = memory_no_source
 
@@ -55,9 +52,6 @@ returns-in_default-new-clause-limit g c = limit_refl _
 pub returns-in_default-new-clause-limited : goal.returns-in_default-new-clause-limited
 returns-in_default-new-clause-limited g c = g.met.C.LineServer.limited c.args.core.now
 
-pub returns-in_default-new-clause-sound : goal.returns-in_default-new-clause-sound
-returns-in_default-new-clause-sound g c = c.requires.sound
-
 pub returns-in_default-new-clause-source_fault : goal.returns-in_default-new-clause-source_fault
 returns-in_default-new-clause-source_fault g c = memory_no_source
 
@@ -76,56 +70,8 @@ returns-in_default-new-clause-later g c = le_refl _
 pub returns-in_default-new-clause-sink_later : goal.returns-in_default-new-clause-sink_later
 returns-in_default-new-clause-sink_later g c = le_refl _
 
-pub serve_lines-requires-clause-sound : goal.serve_lines-requires-clause-sound
-serve_lines-requires-clause-sound g c = c.requires.sound
-
-pub serve_lines-requires-clause-holds : goal.serve_lines-requires-clause-holds
-serve_lines-requires-clause-holds g c = c.requires.holds
-
-pub serve_lines-requires-clause-calm : goal.serve_lines-requires-clause-calm
-serve_lines-requires-clause-calm g c = c.requires.calm
-
-pub serve_lines-requires-clause-fresh : goal.serve_lines-requires-clause-fresh
-serve_lines-requires-clause-fresh g c = c.in-Ok.ensures
-
-pub serve_lines-requires-clause-none : goal.serve_lines-requires-clause-none
-serve_lines-requires-clause-none g c = c.in-Ok-new.ensures
-
-pub returns-in-Ok-serve_lines-clause-run : goal.returns-in-Ok-serve_lines-clause-run
-returns-in-Ok-serve_lines-clause-run g c = c.in-Ok-serve_lines.ensures.run
-
-pub returns-in-Ok-serve_lines-clause-limit : goal.returns-in-Ok-serve_lines-clause-limit
-returns-in-Ok-serve_lines-clause-limit g c = c.in-Ok-serve_lines.ensures.limit
-
-pub returns-in-Ok-serve_lines-clause-sound : goal.returns-in-Ok-serve_lines-clause-sound
-returns-in-Ok-serve_lines-clause-sound g c = c.in-Ok-serve_lines.ensures.sound
-
-pub returns-in-Ok-serve_lines-clause-source_fault : goal.returns-in-Ok-serve_lines-clause-source_fault
-returns-in-Ok-serve_lines-clause-source_fault g c = c.in-Ok-serve_lines.ensures.source_fault
-
-pub returns-in-Ok-serve_lines-clause-sink_fault : goal.returns-in-Ok-serve_lines-clause-sink_fault
-returns-in-Ok-serve_lines-clause-sink_fault g c = c.in-Ok-serve_lines.ensures.sink_fault
-
 pub returns-in-Ok-serve_lines-clause-stopped : goal.returns-in-Ok-serve_lines-clause-stopped
 returns-in-Ok-serve_lines-clause-stopped g c = λ is. absurd (c.in-Ok-serve_lines.ensures.other is)
-
-pub returns-in-Ok-serve_lines-clause-steady : goal.returns-in-Ok-serve_lines-clause-steady
-returns-in-Ok-serve_lines-clause-steady g c = c.in-Ok-serve_lines.ensures.steady
-
-pub returns-in-Ok-serve_lines-clause-later : goal.returns-in-Ok-serve_lines-clause-later
-returns-in-Ok-serve_lines-clause-later g c = c.in-Ok-serve_lines.ensures.later
-
-pub returns-in-Ok-serve_lines-clause-sink_later : goal.returns-in-Ok-serve_lines-clause-sink_later
-returns-in-Ok-serve_lines-clause-sink_later g c = c.in-Ok-serve_lines.ensures.sink_later
-
-pub returns-clause-run : goal.returns-clause-run
-returns-clause-run g c = c.in-Err.ensures.stopped
-
-pub returns-clause-limit : goal.returns-clause-limit
-returns-clause-limit g c = c.in-Err.ensures.limit
-
-pub returns-clause-sound : goal.returns-clause-sound
-returns-clause-sound g c = c.in-Err.ensures.sound
 
 pub returns-clause-source_fault : goal.returns-clause-source_fault
 returns-clause-source_fault g c = stop_no_source
@@ -138,9 +84,3 @@ returns-clause-stopped g c = λ _. c.in-Err.ensures.halted
 
 pub returns-clause-steady : goal.returns-clause-steady
 returns-clause-steady g c = λ _. c.in-Err.ensures.steady_stop
-
-pub returns-clause-later : goal.returns-clause-later
-returns-clause-later g c = c.in-Err.ensures.later
-
-pub returns-clause-sink_later : goal.returns-clause-sink_later
-returns-clause-sink_later g c = c.in-Err.ensures.sink_later

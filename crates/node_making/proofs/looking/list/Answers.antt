@@ -81,27 +81,3 @@ returns-in_err-list-clause-in_step g c = λ on. same_step c.args.shape.now _ _ _
 
 pub returns-clause-in_step : goal.returns-clause-in_step
 returns-clause-in_step g c = λ on. same_step c.args.shape.now _ _ _ (c.names.ensures.looks.words ∙ c.walk_to_dir.ensures.words) c.walk_to_dir.ensures.in_step
-
-pub walk_to_dir-requires-clause-sound : goal.walk_to_dir-requires-clause-sound
-walk_to_dir-requires-clause-sound g c = c.requires.sound
-
-pub walk_to_dir-requires-clause-can : goal.walk_to_dir-requires-clause-can
-walk_to_dir-requires-clause-can g c = c.requires.can
-
-pub walk_to_dir-requires-clause-in_step : goal.walk_to_dir-requires-clause-in_step
-walk_to_dir-requires-clause-in_step g c = c.requires.in_step
-
-pub names-requires-clause-sound : goal.names-requires-clause-sound
-names-requires-clause-sound g c = c.walk_to_dir.ensures.sound
-
-pub returns-in_err-dir-clause-sound : goal.returns-in_err-dir-clause-sound
-returns-in_err-dir-clause-sound g c = c.walk_to_dir.ensures.sound
-
-pub returns-in_err-dir-clause-goes : goal.returns-in_err-dir-clause-goes
-returns-in_err-dir-clause-goes g c = c.walk_to_dir.ensures.goes
-
-pub returns-in_err-list-clause-sound : goal.returns-in_err-list-clause-sound
-returns-in_err-list-clause-sound g c = c.names.ensures.sound
-
-pub returns-clause-sound : goal.returns-clause-sound
-returns-clause-sound g c = c.names.ensures.sound

@@ -126,35 +126,14 @@ overflow_mul-result g c =
     let same = returns-clause-value g c in
     omega (arith, small, same)
 
-pub block_of-requires-clause-sound : goal.block_of-requires-clause-sound
-block_of-requires-clause-sound g c = c.requires.sound
-
-pub word-requires-clause-sound : goal.word-requires-clause-sound
-word-requires-clause-sound g c = c.block_of.ensures.sound
-
 pub returns-in_err-header-clause-value : goal.returns-in_err-header-clause-value
 returns-in_err-header-clause-value g c = let p = err_from_is_err_and c.from_residual.result c.from_residual.ensures.1 in never_some _ _ p.0 p.1
 
 pub returns-in_err-header-clause-other : goal.returns-in_err-header-clause-other
 returns-in_err-header-clause-other g c = let p = err_from_is_err_and c.from_residual.result c.from_residual.ensures.1 in unrefused_vol c.from_residual.result _ _ p.1 p.2
 
-pub returns-in_err-header-clause-words : goal.returns-in_err-header-clause-words
-returns-in_err-header-clause-words g c = c.block_of.ensures.looks.looks.words
-
-pub returns-in_err-header-clause-sound : goal.returns-in_err-header-clause-sound
-returns-in_err-header-clause-sound g c = c.block_of.ensures.sound
-
 pub returns-in_err-pages-clause-value : goal.returns-in_err-pages-clause-value
 returns-in_err-pages-clause-value g c = let p = err_from_is_err_and c.from_residual-in_err-pages.result c.from_residual-in_err-pages.ensures.1 in never_some _ _ p.0 p.1
 
 pub returns-in_err-pages-clause-other : goal.returns-in_err-pages-clause-other
 returns-in_err-pages-clause-other g c = let p = err_from_is_err_and c.from_residual-in_err-pages.result c.from_residual-in_err-pages.ensures.1 in unrefused_vol c.from_residual-in_err-pages.result _ _ p.1 p.2
-
-pub returns-in_err-pages-clause-sound : goal.returns-in_err-pages-clause-sound
-returns-in_err-pages-clause-sound g c = c.word.ensures.sound
-
-pub returns-clause-sound : goal.returns-clause-sound
-returns-clause-sound g c = c.word.ensures.sound
-
-pub returns-clause-other : goal.returns-clause-other
-returns-clause-other g c = tt

@@ -141,47 +141,8 @@ returns-in_ok-size-clause-in_step g c = λ on. same_step c.args.shape.now _ _ _ 
 pub returns-else-inode-eq-REGION-clause-in_step : goal.returns-else-inode-eq-REGION-clause-in_step
 returns-else-inode-eq-REGION-clause-in_step g c = λ on. same_step c.args.shape.now _ _ _ (c.node_inode.ensures.looks.words ∙ c.walk.ensures.words) c.walk.ensures.in_step
 
-pub returns-in_err-i-clause-sound : goal.returns-in_err-i-clause-sound
-returns-in_err-i-clause-sound g c = c.walk.ensures.sound
-
-pub returns-in_err-i-clause-goes : goal.returns-in_err-i-clause-goes
-returns-in_err-i-clause-goes g c = c.walk.ensures.goes
-
-pub returns-in_err-inode-clause-sound : goal.returns-in_err-inode-clause-sound
-returns-in_err-inode-clause-sound g c = c.node_inode.ensures.sound
-
-pub returns-in_err-size-clause-sound : goal.returns-in_err-size-clause-sound
-returns-in_err-size-clause-sound g c = c.region_bytes.ensures.sound
-
-pub returns-in_ok-size-clause-sound : goal.returns-in_ok-size-clause-sound
-returns-in_ok-size-clause-sound g c = c.region_bytes.ensures.sound
-
-pub returns-else-inode-eq-REGION-clause-sound : goal.returns-else-inode-eq-REGION-clause-sound
-returns-else-inode-eq-REGION-clause-sound g c = c.node_inode.ensures.sound
-
-pub walk-requires-clause-sound : goal.walk-requires-clause-sound
-walk-requires-clause-sound g c = c.requires.sound
-
-pub walk-requires-clause-can : goal.walk-requires-clause-can
-walk-requires-clause-can g c = c.requires.can
-
-pub walk-requires-clause-in_step : goal.walk-requires-clause-in_step
-walk-requires-clause-in_step g c = c.requires.in_step
-
-pub node_inode-requires-clause-sound : goal.node_inode-requires-clause-sound
-node_inode-requires-clause-sound g c = c.walk.ensures.sound
-
-pub node_inode-requires-clause-shape : goal.node_inode-requires-clause-shape
-node_inode-requires-clause-shape g c = c.walk.ensures.can.ready.order.has_shape
-
-pub node_inode-requires-clause-named : goal.node_inode-requires-clause-named
-node_inode-requires-clause-named g c = c.walk.ensures.can.ready.order.named
-
 pub node_inode-requires-clause-reads : goal.node_inode-requires-clause-reads
 node_inode-requires-clause-reads g c = (c.walk.ensures.can.state, c.walk.ensures.can.reads)
-
-pub region_bytes-requires-clause-sound : goal.region_bytes-requires-clause-sound
-region_bytes-requires-clause-sound g c = c.node_inode.ensures.sound
 
 pub region_bytes-requires-clause-can : goal.region_bytes-requires-clause-can
 region_bytes-requires-clause-can g c = can_looked c.args.shape.now _ _ _ _ _ _ _ _ c.walk.ensures.can c.node_inode.ensures.looks c.node_inode.ensures.shape c.node_inode.ensures.named (g.met.V.Volume.passes_keeps _ _ c.node_inode.ensures.passes)

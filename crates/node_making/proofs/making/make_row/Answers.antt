@@ -8,9 +8,6 @@ use Rattle.node_updates.proofs.Planning.{ends_planning, leads, planned_reached}
 use Rattle.file_tree.proofs.RowRoom.{row_fits, row_room}
 use Rattle.node_making.proofs.making.make_row.Goals as goal
 
-pub plan_add-requires-clause-entries : goal.plan_add-requires-clause-entries
-plan_add-requires-clause-entries g c = c.requires.can.reads.entries
-
 pub plan_add-requires-clause-room : goal.plan_add-requires-clause-room
 plan_add-requires-clause-room g c = row_fits c.args.shape.now (g.V.Blocks.seen c.args.v.now).words c.requires.can.state c.args.dir.0 c.requires.can.reads c.requires.dir
 
@@ -56,32 +53,5 @@ returns-clause-goes g c = c.plan_add.ensures.goes then c.commit_planned.ensures.
 pub returns-clause-ends : goal.returns-clause-ends
 returns-clause-ends g c = after_well _ _ _ _ _ (well_size _ _ c.plan_add.result _ c.in_ok-row.was c.plan_add.ensures.ends) c.commit_planned.ensures.ends
 
-pub plan_add-requires-clause-sound : goal.plan_add-requires-clause-sound
-plan_add-requires-clause-sound g c = c.requires.sound
-
-pub plan_add-requires-clause-ready : goal.plan_add-requires-clause-ready
-plan_add-requires-clause-ready g c = c.requires.can.ready
-
-pub plan_add-requires-clause-is_name : goal.plan_add-requires-clause-is_name
-plan_add-requires-clause-is_name g c = c.requires.is_name
-
-pub plan_add-requires-clause-dir : goal.plan_add-requires-clause-dir
-plan_add-requires-clause-dir g c = c.requires.dir
-
-pub plan_add-requires-clause-absent : goal.plan_add-requires-clause-absent
-plan_add-requires-clause-absent g c = c.requires.absent
-
-pub commit_planned-requires-clause-sound : goal.commit_planned-requires-clause-sound
-commit_planned-requires-clause-sound g c = c.plan_add.ensures.sound
-
-pub returns-in_err-row-clause-sound : goal.returns-in_err-row-clause-sound
-returns-in_err-row-clause-sound g c = c.plan_add.ensures.sound
-
 pub returns-in_err-row-clause-forgets : goal.returns-in_err-row-clause-forgets
 returns-in_err-row-clause-forgets g c = let p = err_from_is_err_and c.from_residual.result c.from_residual.ensures.1 in never_ok _ _ p.0 p.1
-
-pub returns-in_err-row-clause-goes : goal.returns-in_err-row-clause-goes
-returns-in_err-row-clause-goes g c = c.plan_add.ensures.goes
-
-pub returns-clause-sound : goal.returns-clause-sound
-returns-clause-sound g c = c.commit_planned.ensures.sound

@@ -185,30 +185,3 @@ returns-in_err-i-clause-forgets g c = let p = err_from_is_err_and c.from_residua
 
 pub returns-in_err-make_node-clause-forgets : goal.returns-in_err-make_node-clause-forgets
 returns-in_err-make_node-clause-forgets g c = let p = err_from_is_err_and c.from_residual-in_err-make_node.result c.from_residual-in_err-make_node.ensures.1 in never_ok _ _ p.0 p.1
-
-pub returns-in_err-make_node-clause-sound : goal.returns-in_err-make_node-clause-sound
-returns-in_err-make_node-clause-sound g c = c.make_node.ensures.sound
-
-pub returns-clause-sound : goal.returns-clause-sound
-returns-clause-sound g c = c.make_node.ensures.sound
-
-pub returns-in_default-clause-forgets : goal.returns-in_default-clause-forgets
-returns-in_default-clause-forgets g c = tt
-
-pub returns-in_err-i-clause-sound : goal.returns-in_err-i-clause-sound
-returns-in_err-i-clause-sound g c = c.least_free_past_full.ensures.sound
-
-pub returns-in_default-clause-sound : goal.returns-in_default-clause-sound
-returns-in_default-clause-sound g c = c.least_free_past_full.ensures.sound
-
-pub make_node-requires-clause-sound : goal.make_node-requires-clause-sound
-make_node-requires-clause-sound g c = c.least_free_past_full.ensures.sound
-
-pub make_node-requires-clause-is_name : goal.make_node-requires-clause-is_name
-make_node-requires-clause-is_name g c = c.requires.is_name
-
-pub make_node-requires-clause-node : goal.make_node-requires-clause-node
-make_node-requires-clause-node g c = c.requires.node
-
-pub least_free_past_full-requires-clause-sound : goal.least_free_past_full-requires-clause-sound
-least_free_past_full-requires-clause-sound g c = c.requires.sound

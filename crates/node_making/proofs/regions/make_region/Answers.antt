@@ -65,14 +65,8 @@ returns-in_default-clause-leaves g c =
 pub returns-in_default-clause-ends : goal.returns-in_default-clause-ends
 returns-in_default-clause-ends g c = ends_refused _ _ 10 (well _ _ c.dir_without.result _ c.in_ok-dir.was c.dir_without.ensures.ends)
 
-pub make_new-requires-clause-can : goal.make_new-requires-clause-can
-make_new-requires-clause-can g c = c.dir_without.ensures.can
-
 pub make_new-requires-clause-dir : goal.make_new-requires-clause-dir
 make_new-requires-clause-dir g c = subst (λ f. (held_of c.args.shape.now f c.in_ok-dir.dir.0).kind ≡ 1) (sym c.dir_without.ensures.words) c.in_ok-dir.ensures.dir
-
-pub make_new-requires-clause-is_name : goal.make_new-requires-clause-is_name
-make_new-requires-clause-is_name g c = c.cut_last.ensures.name
 
 pub make_new-requires-clause-absent : goal.make_new-requires-clause-absent
 make_new-requires-clause-absent g c = subst (λ f. (n : ℕ) → HasRow (held_of c.args.shape.now f c.in_ok-dir.dir.0) c.cut_last.result.1.now n → ⊥) (sym c.dir_without.ensures.words) c.in_ok-dir.ensures.absent
@@ -123,56 +117,11 @@ returns-in_default-clause-in_step g c = λ on. same_step c.args.shape.now _ _ _ 
 pub make_new-requires-clause-in_step : goal.make_new-requires-clause-in_step
 make_new-requires-clause-in_step g c = same_step c.args.shape.now _ _ _ (c.dir_without.ensures.words) c.dir_without.ensures.in_step
 
-pub returns-then-is_root-clause-forgets : goal.returns-then-is_root-clause-forgets
-returns-then-is_root-clause-forgets g c = tt
-
 pub returns-then-is_root-clause-in_step : goal.returns-then-is_root-clause-in_step
 returns-then-is_root-clause-in_step g c = λ on. c.requires.in_step
 
 pub returns-then-is_root-clause-goes : goal.returns-then-is_root-clause-goes
 returns-then-is_root-clause-goes g c = goes_refl _ _
 
-pub returns-then-is_root-clause-sound : goal.returns-then-is_root-clause-sound
-returns-then-is_root-clause-sound g c = c.requires.sound
-
-pub returns-in_err-dir-clause-sound : goal.returns-in_err-dir-clause-sound
-returns-in_err-dir-clause-sound g c = c.dir_without.ensures.sound
-
 pub returns-in_err-dir-clause-forgets : goal.returns-in_err-dir-clause-forgets
 returns-in_err-dir-clause-forgets g c = let p = err_from_is_err_and c.from_residual.result c.from_residual.ensures.1 in never_ok _ _ p.0 p.1
-
-pub returns-in_err-dir-clause-goes : goal.returns-in_err-dir-clause-goes
-returns-in_err-dir-clause-goes g c = c.dir_without.ensures.goes
-
-pub returns-in_default-clause-sound : goal.returns-in_default-clause-sound
-returns-in_default-clause-sound g c = c.dir_without.ensures.sound
-
-pub returns-in_default-clause-forgets : goal.returns-in_default-clause-forgets
-returns-in_default-clause-forgets g c = tt
-
-pub returns-in_default-clause-goes : goal.returns-in_default-clause-goes
-returns-in_default-clause-goes g c = c.dir_without.ensures.goes
-
-pub returns-clause-in_step : goal.returns-clause-in_step
-returns-clause-in_step g c = c.make_new.ensures.in_step
-
-pub returns-clause-sound : goal.returns-clause-sound
-returns-clause-sound g c = c.make_new.ensures.sound
-
-pub dir_without-requires-clause-sound : goal.dir_without-requires-clause-sound
-dir_without-requires-clause-sound g c = c.requires.sound
-
-pub dir_without-requires-clause-can : goal.dir_without-requires-clause-can
-dir_without-requires-clause-can g c = c.requires.can
-
-pub dir_without-requires-clause-in_step : goal.dir_without-requires-clause-in_step
-dir_without-requires-clause-in_step g c = c.requires.in_step
-
-pub make_new-requires-clause-sound : goal.make_new-requires-clause-sound
-make_new-requires-clause-sound g c = c.dir_without.ensures.sound
-
-pub region_sizes-requires-clause-pages : goal.region_sizes-requires-clause-pages
-region_sizes-requires-clause-pages g c = c.requires.pages
-
-pub region_sizes-requires-clause-undo : goal.region_sizes-requires-clause-undo
-region_sizes-requires-clause-undo g c = c.requires.undo

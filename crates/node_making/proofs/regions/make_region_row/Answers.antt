@@ -10,9 +10,6 @@ use Rattle.node_making.proofs.RegionRows.{RegionRow, free_still, region_reaches,
 use Rattle.file_tree.proofs.RowRoom.{row_fits}
 use Rattle.node_making.proofs.regions.make_region_row.Goals as goal
 
-pub plan_add-requires-clause-entries : goal.plan_add-requires-clause-entries
-plan_add-requires-clause-entries g c = c.requires.can.reads.entries
-
 pub plan_add-requires-clause-room : goal.plan_add-requires-clause-room
 plan_add-requires-clause-room g c = row_fits c.args.shape.now (g.V.Blocks.seen c.args.v.now).words c.requires.can.state c.args.dir.0 c.requires.can.reads c.requires.dir
 
@@ -35,9 +32,6 @@ plan_region-requires-clause-free g c = free_still c.args.shape.now (g.V.Blocks.s
 
 pub plan_region-requires-clause-skip : goal.plan_region-requires-clause-skip
 plan_region-requires-clause-skip g c = blocks_free c.args.shape.now (g.V.Blocks.seen c.args.v.now) (g.V.Volume.kept c.args.v.now) (g.V.Blocks.seen c.plan_add.new.v) (g.V.Volume.kept c.plan_add.new.v) c.args.dir.0 c.args.name.now c.args.i.0 c.in_ok-row.row c.requires.can.ready c.plan_add.ensures.leaves c.in_ok-row.ensures.ok
-
-pub plan_region-requires-clause-once : goal.plan_region-requires-clause-once
-plan_region-requires-clause-once g c = c.in_ok-row.ensures.ok.takes.once
 
 pub returns-in_err-node-clause-leaves : goal.returns-in_err-node-clause-leaves
 returns-in_err-node-clause-leaves g c =
@@ -90,44 +84,5 @@ returns-clause-ends g c = after_well _ _ _ _ _ (after_well _ _ _ _ _ (well_size 
 pub returns-in_err-row-clause-forgets : goal.returns-in_err-row-clause-forgets
 returns-in_err-row-clause-forgets g c = let p = err_from_is_err_and c.from_residual.result c.from_residual.ensures.1 in never_ok _ _ p.0 p.1
 
-pub returns-in_err-row-clause-goes : goal.returns-in_err-row-clause-goes
-returns-in_err-row-clause-goes g c = c.plan_add.ensures.goes
-
-pub returns-in_err-row-clause-sound : goal.returns-in_err-row-clause-sound
-returns-in_err-row-clause-sound g c = c.plan_add.ensures.sound
-
 pub returns-in_err-node-clause-forgets : goal.returns-in_err-node-clause-forgets
 returns-in_err-node-clause-forgets g c = let p = err_from_is_err_and c.from_residual-in_err-node.result c.from_residual-in_err-node.ensures.1 in never_ok _ _ p.0 p.1
-
-pub returns-in_err-node-clause-sound : goal.returns-in_err-node-clause-sound
-returns-in_err-node-clause-sound g c = c.plan_region.ensures.sound
-
-pub returns-clause-sound : goal.returns-clause-sound
-returns-clause-sound g c = c.commit_planned.ensures.sound
-
-pub plan_add-requires-clause-sound : goal.plan_add-requires-clause-sound
-plan_add-requires-clause-sound g c = c.requires.sound
-
-pub plan_add-requires-clause-ready : goal.plan_add-requires-clause-ready
-plan_add-requires-clause-ready g c = c.requires.can.ready
-
-pub plan_add-requires-clause-dir : goal.plan_add-requires-clause-dir
-plan_add-requires-clause-dir g c = c.requires.dir
-
-pub plan_add-requires-clause-is_name : goal.plan_add-requires-clause-is_name
-plan_add-requires-clause-is_name g c = c.requires.is_name
-
-pub plan_add-requires-clause-absent : goal.plan_add-requires-clause-absent
-plan_add-requires-clause-absent g c = c.requires.absent
-
-pub plan_region-requires-clause-sound : goal.plan_region-requires-clause-sound
-plan_region-requires-clause-sound g c = c.plan_add.ensures.sound
-
-pub plan_region-requires-clause-ino : goal.plan_region-requires-clause-ino
-plan_region-requires-clause-ino g c = c.requires.ino
-
-pub plan_region-requires-clause-sizes : goal.plan_region-requires-clause-sizes
-plan_region-requires-clause-sizes g c = c.requires.sizes
-
-pub commit_planned-requires-clause-sound : goal.commit_planned-requires-clause-sound
-commit_planned-requires-clause-sound g c = c.plan_region.ensures.sound

@@ -150,50 +150,11 @@ returns-in_err-change-clause-ok g c = let p = err_from_is_err_and c.from_residua
 pub returns-in_err-change-clause-space : goal.returns-in_err-change-clause-space
 returns-in_err-change-clause-space g c = let p = err_from_is_err_and c.from_residual.result c.from_residual.ensures.1 in never_ok _ _ p.0 p.1
 
-pub returns-in_err-change-clause-leaves : goal.returns-in_err-change-clause-leaves
-returns-in_err-change-clause-leaves g c = c.plan_size.ensures.leaves
-
-pub returns-in_err-change-clause-spared : goal.returns-in_err-change-clause-spared
-returns-in_err-change-clause-spared g c = c.plan_size.ensures.spared
-
-pub returns-in_err-change-clause-goes : goal.returns-in_err-change-clause-goes
-returns-in_err-change-clause-goes g c = c.plan_size.ensures.goes
-
-pub returns-in_err-change-clause-sound : goal.returns-in_err-change-clause-sound
-returns-in_err-change-clause-sound g c = c.plan_size.ensures.sound
-
 pub returns-in_err-put_header-clause-ok : goal.returns-in_err-put_header-clause-ok
 returns-in_err-put_header-clause-ok g c = let p = err_from_is_err_and c.from_residual-in_err-put_header.result c.from_residual-in_err-put_header.ensures.1 in never_some _ _ p.0 p.1
 
 pub returns-in_err-put_header-clause-space : goal.returns-in_err-put_header-clause-space
 returns-in_err-put_header-clause-space g c = let p = err_from_is_err_and c.from_residual-in_err-put_header.result c.from_residual-in_err-put_header.ensures.1 in never_ok _ _ p.0 p.1
-
-pub returns-in_err-put_header-clause-sound : goal.returns-in_err-put_header-clause-sound
-returns-in_err-put_header-clause-sound g c = c.put_header.ensures.sound
-
-pub returns-clause-sound : goal.returns-clause-sound
-returns-clause-sound g c = c.put_header.ensures.sound
-
-pub put_header-requires-clause-sound : goal.put_header-requires-clause-sound
-put_header-requires-clause-sound g c = c.plan_size.ensures.sound
-
-pub put_header-requires-clause-idle : goal.put_header-requires-clause-idle
-put_header-requires-clause-idle g c = c.plan_size.ensures.leaves.idle
-
-pub plan_size-requires-clause-sound : goal.plan_size-requires-clause-sound
-plan_size-requires-clause-sound g c = c.requires.sound
-
-pub plan_size-requires-clause-ready : goal.plan_size-requires-clause-ready
-plan_size-requires-clause-ready g c = c.requires.ready
-
-pub plan_size-requires-clause-ino : goal.plan_size-requires-clause-ino
-plan_size-requires-clause-ino g c = c.requires.ino
-
-pub plan_size-requires-clause-skip : goal.plan_size-requires-clause-skip
-plan_size-requires-clause-skip g c = c.requires.skip
-
-pub plan_size-requires-clause-once : goal.plan_size-requires-clause-once
-plan_size-requires-clause-once g c = c.requires.once
 
 pub returns-in_err-put_header-clause-ends : goal.returns-in_err-put_header-clause-ends
 returns-in_err-put_header-clause-ends g c = let p = err_from_is_err_and c.from_residual-in_err-put_header.result c.from_residual-in_err-put_header.ensures.1 in size_then _ _ _ c.plan_size.result _ _ c.in_ok-change.was c.plan_size.ensures.ends (ends_vol_size _ _ c.put_header.result c.from_residual-in_err-put_header.result _ p.0 c.in_err-put_header.was p.1 p.2 c.put_header.ensures.ends)

@@ -93,24 +93,6 @@ returns-clause-goes g c = c.walk.ensures.goes then (g.met.V.Volume.passes_keeps 
 pub returns-clause-ends : goal.returns-clause-ends
 returns-clause-ends g c = ends_ok _ _ _ (after_well _ _ _ _ _ (well _ _ c.walk.result _ c.in_ok-i.was c.walk.ensures.ends) (well _ _ c.node_inode.result _ c.in_ok-inode.was c.node_inode.ensures.ends))
 
-pub walk-requires-clause-sound : goal.walk-requires-clause-sound
-walk-requires-clause-sound g c = c.requires.sound
-
-pub walk-requires-clause-can : goal.walk-requires-clause-can
-walk-requires-clause-can g c = c.requires.can
-
-pub walk-requires-clause-in_step : goal.walk-requires-clause-in_step
-walk-requires-clause-in_step g c = c.requires.in_step
-
-pub node_inode-requires-clause-sound : goal.node_inode-requires-clause-sound
-node_inode-requires-clause-sound g c = c.walk.ensures.sound
-
-pub node_inode-requires-clause-shape : goal.node_inode-requires-clause-shape
-node_inode-requires-clause-shape g c = c.walk.ensures.can.ready.order.has_shape
-
-pub node_inode-requires-clause-named : goal.node_inode-requires-clause-named
-node_inode-requires-clause-named g c = c.walk.ensures.can.ready.order.named
-
 pub node_inode-requires-clause-reads : goal.node_inode-requires-clause-reads
 node_inode-requires-clause-reads g c = (c.walk.ensures.can.state, c.walk.ensures.can.reads)
 
@@ -123,24 +105,6 @@ returns-in_err-i-clause-ino g c = let p = err_from_is_err_and c.from_residual.re
 pub returns-in_err-i-clause-inode : goal.returns-in_err-i-clause-inode
 returns-in_err-i-clause-inode g c = let p = err_from_is_err_and c.from_residual.result c.from_residual.ensures.1 in never_some _ _ p.0 p.1
 
-pub returns-in_err-i-clause-in_step : goal.returns-in_err-i-clause-in_step
-returns-in_err-i-clause-in_step g c = c.walk.ensures.in_step
-
-pub returns-in_err-i-clause-leaves : goal.returns-in_err-i-clause-leaves
-returns-in_err-i-clause-leaves g c = c.walk.ensures.leaves
-
-pub returns-in_err-i-clause-words : goal.returns-in_err-i-clause-words
-returns-in_err-i-clause-words g c = c.walk.ensures.words
-
-pub returns-in_err-i-clause-can : goal.returns-in_err-i-clause-can
-returns-in_err-i-clause-can g c = c.walk.ensures.can
-
-pub returns-in_err-i-clause-goes : goal.returns-in_err-i-clause-goes
-returns-in_err-i-clause-goes g c = c.walk.ensures.goes
-
-pub returns-in_err-i-clause-sound : goal.returns-in_err-i-clause-sound
-returns-in_err-i-clause-sound g c = c.walk.ensures.sound
-
 pub returns-in_err-inode-clause-region : goal.returns-in_err-inode-clause-region
 returns-in_err-inode-clause-region g c = let p = err_from_is_err_and c.from_residual-in_err-inode.result c.from_residual-in_err-inode.ensures.1 in never_some _ _ p.0 p.1
 
@@ -150,47 +114,20 @@ returns-in_err-inode-clause-ino g c = let p = err_from_is_err_and c.from_residua
 pub returns-in_err-inode-clause-inode : goal.returns-in_err-inode-clause-inode
 returns-in_err-inode-clause-inode g c = let p = err_from_is_err_and c.from_residual-in_err-inode.result c.from_residual-in_err-inode.ensures.1 in never_some _ _ p.0 p.1
 
-pub returns-in_err-inode-clause-in_step : goal.returns-in_err-inode-clause-in_step
-returns-in_err-inode-clause-in_step g c = c.walk.ensures.in_step
-
 pub returns-in_err-inode-clause-can : goal.returns-in_err-inode-clause-can
 returns-in_err-inode-clause-can g c = can_looked c.args.shape.now _ _ _ _ _ _ _ _ c.walk.ensures.can c.node_inode.ensures.looks c.node_inode.ensures.shape c.node_inode.ensures.named (g.met.V.Volume.passes_keeps _ _ c.node_inode.ensures.passes)
-
-pub returns-in_err-inode-clause-sound : goal.returns-in_err-inode-clause-sound
-returns-in_err-inode-clause-sound g c = c.node_inode.ensures.sound
 
 pub returns-in_err-inode-clause-words : goal.returns-in_err-inode-clause-words
 returns-in_err-inode-clause-words g c = c.node_inode.ensures.looks.words ∙ c.walk.ensures.words
 
-pub returns-then-inode-ne-REGION-clause-region : goal.returns-then-inode-ne-REGION-clause-region
-returns-then-inode-ne-REGION-clause-region g c = tt
-
-pub returns-then-inode-ne-REGION-clause-ino : goal.returns-then-inode-ne-REGION-clause-ino
-returns-then-inode-ne-REGION-clause-ino g c = tt
-
-pub returns-then-inode-ne-REGION-clause-inode : goal.returns-then-inode-ne-REGION-clause-inode
-returns-then-inode-ne-REGION-clause-inode g c = tt
-
-pub returns-then-inode-ne-REGION-clause-in_step : goal.returns-then-inode-ne-REGION-clause-in_step
-returns-then-inode-ne-REGION-clause-in_step g c = c.walk.ensures.in_step
-
 pub returns-then-inode-ne-REGION-clause-can : goal.returns-then-inode-ne-REGION-clause-can
 returns-then-inode-ne-REGION-clause-can g c = can_looked c.args.shape.now _ _ _ _ _ _ _ _ c.walk.ensures.can c.node_inode.ensures.looks c.node_inode.ensures.shape c.node_inode.ensures.named (g.met.V.Volume.passes_keeps _ _ c.node_inode.ensures.passes)
-
-pub returns-then-inode-ne-REGION-clause-sound : goal.returns-then-inode-ne-REGION-clause-sound
-returns-then-inode-ne-REGION-clause-sound g c = c.node_inode.ensures.sound
 
 pub returns-then-inode-ne-REGION-clause-words : goal.returns-then-inode-ne-REGION-clause-words
 returns-then-inode-ne-REGION-clause-words g c = c.node_inode.ensures.looks.words ∙ c.walk.ensures.words
 
-pub returns-clause-in_step : goal.returns-clause-in_step
-returns-clause-in_step g c = c.walk.ensures.in_step
-
 pub returns-clause-can : goal.returns-clause-can
 returns-clause-can g c = can_looked c.args.shape.now _ _ _ _ _ _ _ _ c.walk.ensures.can c.node_inode.ensures.looks c.node_inode.ensures.shape c.node_inode.ensures.named (g.met.V.Volume.passes_keeps _ _ c.node_inode.ensures.passes)
-
-pub returns-clause-sound : goal.returns-clause-sound
-returns-clause-sound g c = c.node_inode.ensures.sound
 
 pub returns-clause-words : goal.returns-clause-words
 returns-clause-words g c = c.node_inode.ensures.looks.words ∙ c.walk.ensures.words

@@ -8,9 +8,6 @@ use Rattle.node_updates.proofs.Planning.{ends_unread}
 use Rattle.node_moving.proofs.RenamedRows.{RenamedRow, renamed_leads, renamed_planned}
 use Rattle.node_moving.proofs.moving.rename_within.Goals as goal
 
-pub plan_set-requires-clause-entries : goal.plan_set-requires-clause-entries
-plan_set-requires-clause-entries g c = c.requires.can.reads.entries
-
 pub plan_set-requires-clause-slot : goal.plan_set-requires-clause-slot
 plan_set-requires-clause-slot g c = record { dir = c.requires.from.1.dir; within = c.requires.from.1.entry.within }
 
@@ -51,26 +48,5 @@ returns-clause-goes g c = c.plan_set.ensures.goes then c.commit_planned.ensures.
 pub returns-clause-ends : goal.returns-clause-ends
 returns-clause-ends g c = after_well _ _ _ _ _ (well_read _ _ c.plan_set.result _ c.in_ok-set.was c.plan_set.ensures.ends) c.commit_planned.ensures.ends
 
-pub plan_set-requires-clause-sound : goal.plan_set-requires-clause-sound
-plan_set-requires-clause-sound g c = c.requires.sound
-
-pub plan_set-requires-clause-ready : goal.plan_set-requires-clause-ready
-plan_set-requires-clause-ready g c = c.requires.can.ready
-
-pub plan_set-requires-clause-is_name : goal.plan_set-requires-clause-is_name
-plan_set-requires-clause-is_name g c = c.requires.is_name
-
-pub commit_planned-requires-clause-sound : goal.commit_planned-requires-clause-sound
-commit_planned-requires-clause-sound g c = c.plan_set.ensures.sound
-
-pub returns-in_err-set-clause-sound : goal.returns-in_err-set-clause-sound
-returns-in_err-set-clause-sound g c = c.plan_set.ensures.sound
-
 pub returns-in_err-set-clause-forgets : goal.returns-in_err-set-clause-forgets
 returns-in_err-set-clause-forgets g c = let p = err_from_is_err_and c.from_residual.result c.from_residual.ensures.1 in never_ok _ _ p.0 p.1
-
-pub returns-in_err-set-clause-goes : goal.returns-in_err-set-clause-goes
-returns-in_err-set-clause-goes g c = c.plan_set.ensures.goes
-
-pub returns-clause-sound : goal.returns-clause-sound
-returns-clause-sound g c = c.commit_planned.ensures.sound

@@ -11,9 +11,6 @@ use Rattle.node_updates.proofs.Planning.{can_still, ends_unread, leaves_on, look
 use Rattle.node_moving.proofs.RenamedRows.{AcrossRow, across_leads, across_planned}
 use Rattle.node_moving.proofs.moving.replace_across.Goals as goal
 
-pub plan_remove-requires-clause-entries : goal.plan_remove-requires-clause-entries
-plan_remove-requires-clause-entries g c = c.requires.can.reads.entries
-
 pub plan_remove-requires-clause-slot : goal.plan_remove-requires-clause-slot
 plan_remove-requires-clause-slot g c = record { dir = c.requires.from.1.dir; within = c.requires.from.1.entry.within }
 
@@ -100,44 +97,11 @@ returns-clause-goes g c = c.plan_remove.ensures.goes then c.plan_set.ensures.goe
 pub returns-clause-ends : goal.returns-clause-ends
 returns-clause-ends g c = after_well _ _ _ _ _ (after_well _ _ _ _ _ (after_well _ _ _ _ _ (well_read _ _ c.plan_remove.result _ c.in_ok-goes.was c.plan_remove.ensures.ends) (well_read _ _ c.plan_set.result _ c.in_ok-comes.was c.plan_set.ensures.ends)) (well_read _ _ c.blocks_of.result _ c.in_ok-freed.was c.blocks_of.ensures.ends)) c.commit_planned.ensures.ends
 
-pub plan_remove-requires-clause-sound : goal.plan_remove-requires-clause-sound
-plan_remove-requires-clause-sound g c = c.requires.sound
-
-pub plan_remove-requires-clause-ready : goal.plan_remove-requires-clause-ready
-plan_remove-requires-clause-ready g c = c.requires.can.ready
-
-pub plan_set-requires-clause-sound : goal.plan_set-requires-clause-sound
-plan_set-requires-clause-sound g c = c.plan_remove.ensures.sound
-
-pub plan_set-requires-clause-is_name : goal.plan_set-requires-clause-is_name
-plan_set-requires-clause-is_name g c = c.requires.is_name
-
-pub blocks_of-requires-clause-sound : goal.blocks_of-requires-clause-sound
-blocks_of-requires-clause-sound g c = c.plan_set.ensures.sound
-
-pub commit_planned-requires-clause-sound : goal.commit_planned-requires-clause-sound
-commit_planned-requires-clause-sound g c = c.blocks_of.ensures.sound
-
-pub returns-in_err-goes-clause-sound : goal.returns-in_err-goes-clause-sound
-returns-in_err-goes-clause-sound g c = c.plan_remove.ensures.sound
-
 pub returns-in_err-goes-clause-forgets : goal.returns-in_err-goes-clause-forgets
 returns-in_err-goes-clause-forgets g c = let p = err_from_is_err_and c.from_residual.result c.from_residual.ensures.1 in never_ok _ _ p.0 p.1
-
-pub returns-in_err-goes-clause-goes : goal.returns-in_err-goes-clause-goes
-returns-in_err-goes-clause-goes g c = c.plan_remove.ensures.goes
-
-pub returns-in_err-comes-clause-sound : goal.returns-in_err-comes-clause-sound
-returns-in_err-comes-clause-sound g c = c.plan_set.ensures.sound
 
 pub returns-in_err-comes-clause-forgets : goal.returns-in_err-comes-clause-forgets
 returns-in_err-comes-clause-forgets g c = let p = err_from_is_err_and c.from_residual-in_err-comes.result c.from_residual-in_err-comes.ensures.1 in never_ok _ _ p.0 p.1
 
-pub returns-in_err-freed-clause-sound : goal.returns-in_err-freed-clause-sound
-returns-in_err-freed-clause-sound g c = c.blocks_of.ensures.sound
-
 pub returns-in_err-freed-clause-forgets : goal.returns-in_err-freed-clause-forgets
 returns-in_err-freed-clause-forgets g c = let p = err_from_is_err_and c.from_residual-in_err-freed.result c.from_residual-in_err-freed.ensures.1 in never_ok _ _ p.0 p.1
-
-pub returns-clause-sound : goal.returns-clause-sound
-returns-clause-sound g c = c.commit_planned.ensures.sound

@@ -135,21 +135,6 @@ returns-else-from-to-2-clause-goes g c = c.inode_of.ensures.goes then c.inode_of
 pub returns-else-from-to-2-clause-ends : goal.returns-else-from-to-2-clause-ends
 returns-else-from-to-2-clause-ends g c = after_well _ _ _ _ _ (after_well _ _ _ _ _ (well _ _ c.inode_of.result _ c.in_ok-moved.was c.inode_of.ensures.ends) (well _ _ c.inode_of-2.result _ c.in_ok-gone.was c.inode_of-2.ensures.ends)) c.replace_across.ensures.ends
 
-pub inode_of-requires-clause-sound : goal.inode_of-requires-clause-sound
-inode_of-requires-clause-sound g c = c.requires.sound
-
-pub inode_of-requires-clause-can : goal.inode_of-requires-clause-can
-inode_of-requires-clause-can g c = c.requires.can
-
-pub inode_of-requires-clause-used : goal.inode_of-requires-clause-used
-inode_of-requires-clause-used g c = c.requires.used
-
-pub inode_of-requires-2-clause-sound : goal.inode_of-requires-2-clause-sound
-inode_of-requires-2-clause-sound g c = c.inode_of.ensures.sound
-
-pub inode_of-requires-2-clause-can : goal.inode_of-requires-2-clause-can
-inode_of-requires-2-clause-can g c = c.inode_of.ensures.can
-
 pub inode_of-requires-2-clause-used : goal.inode_of-requires-2-clause-used
 inode_of-requires-2-clause-used g c = subst (λ f. 0 < (held_of c.args.shape.now f c.args.to.ino.0).kind) (sym c.inode_of.ensures.words) c.requires.used_to
 
@@ -159,50 +144,11 @@ returns-then-from-to-clause-goes g c = goes_refl _ _
 pub returns-then-from-to-clause-ends : goal.returns-then-from-to-clause-ends
 returns-then-from-to-clause-ends g c = ends_ok _ _ _ (ends_by_well _ _ _ _ (le_refl _) refl (λ a. a) (λ a. a))
 
-pub returns-then-from-to-clause-sound : goal.returns-then-from-to-clause-sound
-returns-then-from-to-clause-sound g c = c.requires.sound
-
 pub returns-in_err-moved-clause-forgets : goal.returns-in_err-moved-clause-forgets
 returns-in_err-moved-clause-forgets g c = let p = err_from_is_err_and c.from_residual.result c.from_residual.ensures.1 in never_ok _ _ p.0 p.1
 
-pub returns-in_err-moved-clause-goes : goal.returns-in_err-moved-clause-goes
-returns-in_err-moved-clause-goes g c = c.inode_of.ensures.goes
-
-pub returns-in_err-moved-clause-sound : goal.returns-in_err-moved-clause-sound
-returns-in_err-moved-clause-sound g c = c.inode_of.ensures.sound
-
 pub returns-in_err-gone-clause-forgets : goal.returns-in_err-gone-clause-forgets
 returns-in_err-gone-clause-forgets g c = let p = err_from_is_err_and c.from_residual-in_err-gone.result c.from_residual-in_err-gone.ensures.1 in never_ok _ _ p.0 p.1
-
-pub returns-in_err-gone-clause-sound : goal.returns-in_err-gone-clause-sound
-returns-in_err-gone-clause-sound g c = c.inode_of-2.ensures.sound
-
-pub returns-then-moved-eq-DIRECTORY-clause-forgets : goal.returns-then-moved-eq-DIRECTORY-clause-forgets
-returns-then-moved-eq-DIRECTORY-clause-forgets g c = tt
-
-pub returns-then-moved-eq-DIRECTORY-clause-sound : goal.returns-then-moved-eq-DIRECTORY-clause-sound
-returns-then-moved-eq-DIRECTORY-clause-sound g c = c.inode_of-2.ensures.sound
-
-pub returns-then-gone-eq-DIRECTORY-clause-forgets : goal.returns-then-gone-eq-DIRECTORY-clause-forgets
-returns-then-gone-eq-DIRECTORY-clause-forgets g c = tt
-
-pub returns-then-gone-eq-DIRECTORY-clause-sound : goal.returns-then-gone-eq-DIRECTORY-clause-sound
-returns-then-gone-eq-DIRECTORY-clause-sound g c = c.inode_of-2.ensures.sound
-
-pub returns-then-is_open-clause-forgets : goal.returns-then-is_open-clause-forgets
-returns-then-is_open-clause-forgets g c = tt
-
-pub returns-then-is_open-clause-sound : goal.returns-then-is_open-clause-sound
-returns-then-is_open-clause-sound g c = c.inode_of-2.ensures.sound
-
-pub returns-then-from-to-2-clause-sound : goal.returns-then-from-to-2-clause-sound
-returns-then-from-to-2-clause-sound g c = c.replace_within.ensures.sound
-
-pub replace_within-requires-clause-sound : goal.replace_within-requires-clause-sound
-replace_within-requires-clause-sound g c = c.inode_of-2.ensures.sound
-
-pub replace_within-requires-clause-can : goal.replace_within-requires-clause-can
-replace_within-requires-clause-can g c = c.inode_of-2.ensures.can
 
 pub replace_within-requires-clause-from : goal.replace_within-requires-clause-from
 replace_within-requires-clause-from g c = (c.requires.from.0, subst (λ f. IsRow c.args.shape.now f c.requires.from.0 c.args.from) (sym (c.inode_of-2.ensures.words ∙ c.inode_of.ensures.words)) c.requires.from.1)
@@ -222,15 +168,6 @@ replace_within-requires-clause-to g c = (c.args.name.now, subst (λ f. IsRow c.a
 pub replace_within-requires-clause-one : goal.replace_within-requires-clause-one
 replace_within-requires-clause-one g c = c.if-from-to-2.true
 
-pub returns-else-from-to-2-clause-sound : goal.returns-else-from-to-2-clause-sound
-returns-else-from-to-2-clause-sound g c = c.replace_across.ensures.sound
-
-pub replace_across-requires-clause-sound : goal.replace_across-requires-clause-sound
-replace_across-requires-clause-sound g c = c.inode_of-2.ensures.sound
-
-pub replace_across-requires-clause-can : goal.replace_across-requires-clause-can
-replace_across-requires-clause-can g c = c.inode_of-2.ensures.can
-
 pub replace_across-requires-clause-from : goal.replace_across-requires-clause-from
 replace_across-requires-clause-from g c = (c.requires.from.0, subst (λ f. IsRow c.args.shape.now f c.requires.from.0 c.args.from) (sym (c.inode_of-2.ensures.words ∙ c.inode_of.ensures.words)) c.requires.from.1)
 
@@ -248,6 +185,3 @@ replace_across-requires-clause-to g c = subst (λ f. IsRow c.args.shape.now f c.
 
 pub replace_across-requires-clause-two : goal.replace_across-requires-clause-two
 replace_across-requires-clause-two g c = c.if-from-to-2.false
-
-pub replace_across-requires-clause-is_name : goal.replace_across-requires-clause-is_name
-replace_across-requires-clause-is_name g c = c.requires.is_name

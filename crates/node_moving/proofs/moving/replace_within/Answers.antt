@@ -9,9 +9,6 @@ use Rattle.node_updates.proofs.Planning.{can_still, ends_unread, leaves_on, look
 use Rattle.node_moving.proofs.RenamedRows.{WithinRow, within_leads, within_planned}
 use Rattle.node_moving.proofs.moving.replace_within.Goals as goal
 
-pub plan_replace-requires-clause-entries : goal.plan_replace-requires-clause-entries
-plan_replace-requires-clause-entries g c = c.requires.can.reads.entries
-
 pub plan_replace-requires-clause-slot : goal.plan_replace-requires-clause-slot
 plan_replace-requires-clause-slot g c = record { dir = c.requires.to.1.dir; within = c.requires.to.1.entry.within }
 
@@ -76,32 +73,8 @@ returns-clause-goes g c = c.plan_replace.ensures.goes then (g.met.V.Volume.passe
 pub returns-clause-ends : goal.returns-clause-ends
 returns-clause-ends g c = after_well _ _ _ _ _ (after_well _ _ _ _ _ (well_read _ _ c.plan_replace.result _ c.in_ok-replaced.was c.plan_replace.ensures.ends) (well_read _ _ c.blocks_of.result _ c.in_ok-freed.was c.blocks_of.ensures.ends)) c.commit_planned.ensures.ends
 
-pub plan_replace-requires-clause-sound : goal.plan_replace-requires-clause-sound
-plan_replace-requires-clause-sound g c = c.requires.sound
-
-pub plan_replace-requires-clause-ready : goal.plan_replace-requires-clause-ready
-plan_replace-requires-clause-ready g c = c.requires.can.ready
-
-pub blocks_of-requires-clause-sound : goal.blocks_of-requires-clause-sound
-blocks_of-requires-clause-sound g c = c.plan_replace.ensures.sound
-
-pub commit_planned-requires-clause-sound : goal.commit_planned-requires-clause-sound
-commit_planned-requires-clause-sound g c = c.blocks_of.ensures.sound
-
-pub returns-in_err-replaced-clause-sound : goal.returns-in_err-replaced-clause-sound
-returns-in_err-replaced-clause-sound g c = c.plan_replace.ensures.sound
-
 pub returns-in_err-replaced-clause-forgets : goal.returns-in_err-replaced-clause-forgets
 returns-in_err-replaced-clause-forgets g c = let p = err_from_is_err_and c.from_residual.result c.from_residual.ensures.1 in never_ok _ _ p.0 p.1
 
-pub returns-in_err-replaced-clause-goes : goal.returns-in_err-replaced-clause-goes
-returns-in_err-replaced-clause-goes g c = c.plan_replace.ensures.goes
-
-pub returns-in_err-freed-clause-sound : goal.returns-in_err-freed-clause-sound
-returns-in_err-freed-clause-sound g c = c.blocks_of.ensures.sound
-
 pub returns-in_err-freed-clause-forgets : goal.returns-in_err-freed-clause-forgets
 returns-in_err-freed-clause-forgets g c = let p = err_from_is_err_and c.from_residual-in_err-freed.result c.from_residual-in_err-freed.ensures.1 in never_ok _ _ p.0 p.1
-
-pub returns-clause-sound : goal.returns-clause-sound
-returns-clause-sound g c = c.commit_planned.ensures.sound

@@ -40,39 +40,3 @@ returns-clause-in_step g c = λ on.
     let i = c.args.row.ino.0 in
     let done = was_done SaysDone shape x k y j s (answered (without s d name i) Done) (NoneDone s) c.remove_row-done.result (sym c.is_err.ensures.value ∙ c.if-is_err.false) (returns-clause-leaves g c s reads) in
     c.gone.ensures shape x.words y.words s (without s d name i) c.requires.in_step reads done.reads refl (stay_without s d name i)
-
-pub returns-then-is_err-clause-forgets : goal.returns-then-is_err-clause-forgets
-returns-then-is_err-clause-forgets g c = c.remove_row-done.ensures.forgets
-
-pub returns-then-is_err-clause-goes : goal.returns-then-is_err-clause-goes
-returns-then-is_err-clause-goes g c = c.remove_row-done.ensures.goes
-
-pub returns-then-is_err-clause-ends : goal.returns-then-is_err-clause-ends
-returns-then-is_err-clause-ends g c = c.remove_row-done.ensures.ends
-
-pub returns-then-is_err-clause-sound : goal.returns-then-is_err-clause-sound
-returns-then-is_err-clause-sound g c = c.remove_row-done.ensures.sound
-
-pub returns-clause-forgets : goal.returns-clause-forgets
-returns-clause-forgets g c = c.remove_row-done.ensures.forgets
-
-pub returns-clause-goes : goal.returns-clause-goes
-returns-clause-goes g c = c.remove_row-done.ensures.goes
-
-pub returns-clause-ends : goal.returns-clause-ends
-returns-clause-ends g c = c.remove_row-done.ensures.ends
-
-pub returns-clause-sound : goal.returns-clause-sound
-returns-clause-sound g c = c.remove_row-done.ensures.sound
-
-pub remove_row-done-requires-clause-sound : goal.remove_row-done-requires-clause-sound
-remove_row-done-requires-clause-sound g c = c.requires.sound
-
-pub remove_row-done-requires-clause-can : goal.remove_row-done-requires-clause-can
-remove_row-done-requires-clause-can g c = c.requires.can
-
-pub remove_row-done-requires-clause-used : goal.remove_row-done-requires-clause-used
-remove_row-done-requires-clause-used g c = c.requires.used
-
-pub remove_row-done-requires-clause-bare : goal.remove_row-done-requires-clause-bare
-remove_row-done-requires-clause-bare g c = c.requires.bare

@@ -220,74 +220,17 @@ cut_last-requires-clause-some g c = c.is_root.ensures.not c.if-is_root.false
 pub take_row-requires-clause-in_step : goal.take_row-requires-clause-in_step
 take_row-requires-clause-in_step g c = same_step c.args.shape.now _ _ _ (c.node_inode.ensures.looks.words ∙ c.walk_to_row.ensures.words) c.walk_to_row.ensures.in_step
 
-pub returns-then-is_root-clause-forgets : goal.returns-then-is_root-clause-forgets
-returns-then-is_root-clause-forgets g c = tt
-
 pub returns-then-is_root-clause-in_step : goal.returns-then-is_root-clause-in_step
 returns-then-is_root-clause-in_step g c = λ on. c.requires.in_step
 
 pub returns-then-is_root-clause-goes : goal.returns-then-is_root-clause-goes
 returns-then-is_root-clause-goes g c = goes_refl _ _
 
-pub returns-then-is_root-clause-sound : goal.returns-then-is_root-clause-sound
-returns-then-is_root-clause-sound g c = c.requires.sound
-
-pub returns-in_err-row-clause-sound : goal.returns-in_err-row-clause-sound
-returns-in_err-row-clause-sound g c = c.walk_to_row.ensures.sound
-
 pub returns-in_err-row-clause-forgets : goal.returns-in_err-row-clause-forgets
 returns-in_err-row-clause-forgets g c = let p = err_from_is_err_and c.from_residual.result c.from_residual.ensures.1 in never_ok _ _ p.0 p.1
 
-pub returns-in_err-row-clause-goes : goal.returns-in_err-row-clause-goes
-returns-in_err-row-clause-goes g c = c.walk_to_row.ensures.goes
-
-pub returns-in_err-inode-clause-sound : goal.returns-in_err-inode-clause-sound
-returns-in_err-inode-clause-sound g c = c.node_inode.ensures.sound
-
 pub returns-in_err-inode-clause-forgets : goal.returns-in_err-inode-clause-forgets
 returns-in_err-inode-clause-forgets g c = let p = err_from_is_err_and c.from_residual-in_err-inode.result c.from_residual-in_err-inode.ensures.1 in never_ok _ _ p.0 p.1
-
-pub returns-then-inode-eq-DIRECTORY-clause-sound : goal.returns-then-inode-eq-DIRECTORY-clause-sound
-returns-then-inode-eq-DIRECTORY-clause-sound g c = c.node_inode.ensures.sound
-
-pub returns-then-inode-eq-DIRECTORY-clause-forgets : goal.returns-then-inode-eq-DIRECTORY-clause-forgets
-returns-then-inode-eq-DIRECTORY-clause-forgets g c = tt
-
-pub returns-then-is_open-clause-sound : goal.returns-then-is_open-clause-sound
-returns-then-is_open-clause-sound g c = c.node_inode.ensures.sound
-
-pub returns-then-is_open-clause-forgets : goal.returns-then-is_open-clause-forgets
-returns-then-is_open-clause-forgets g c = tt
-
-pub returns-clause-in_step : goal.returns-clause-in_step
-returns-clause-in_step g c = c.take_row.ensures.in_step
-
-pub returns-clause-sound : goal.returns-clause-sound
-returns-clause-sound g c = c.take_row.ensures.sound
-
-pub take_row-requires-clause-sound : goal.take_row-requires-clause-sound
-take_row-requires-clause-sound g c = c.node_inode.ensures.sound
-
-pub walk_to_row-requires-clause-sound : goal.walk_to_row-requires-clause-sound
-walk_to_row-requires-clause-sound g c = c.requires.sound
-
-pub walk_to_row-requires-clause-can : goal.walk_to_row-requires-clause-can
-walk_to_row-requires-clause-can g c = c.requires.can
-
-pub walk_to_row-requires-clause-in_step : goal.walk_to_row-requires-clause-in_step
-walk_to_row-requires-clause-in_step g c = c.requires.in_step
-
-pub walk_to_row-requires-clause-path : goal.walk_to_row-requires-clause-path
-walk_to_row-requires-clause-path g c = c.requires.path
-
-pub node_inode-requires-clause-sound : goal.node_inode-requires-clause-sound
-node_inode-requires-clause-sound g c = c.walk_to_row.ensures.sound
-
-pub node_inode-requires-clause-shape : goal.node_inode-requires-clause-shape
-node_inode-requires-clause-shape g c = c.walk_to_row.ensures.can.ready.order.has_shape
-
-pub node_inode-requires-clause-named : goal.node_inode-requires-clause-named
-node_inode-requires-clause-named g c = c.walk_to_row.ensures.can.ready.order.named
 
 pub node_inode-requires-clause-reads : goal.node_inode-requires-clause-reads
 node_inode-requires-clause-reads g c = (c.walk_to_row.ensures.can.state, c.walk_to_row.ensures.can.reads)

@@ -247,83 +247,11 @@ is_below-requires-clause-some g c = c.is_root-2.ensures.not c.if-is_root-2.false
 pub walk_to_row-requires-clause-some : goal.walk_to_row-requires-clause-some
 walk_to_row-requires-clause-some g c = c.is_root-2.ensures.not c.if-is_root-2.false
 
-pub returns-in_err-walk-clause-sound : goal.returns-in_err-walk-clause-sound
-returns-in_err-walk-clause-sound g c = c.walk.ensures.sound
-
 pub returns-in_err-walk-clause-forgets : goal.returns-in_err-walk-clause-forgets
 returns-in_err-walk-clause-forgets g c = let p = err_from_is_err_and c.from_residual.result c.from_residual.ensures.1 in never_ok _ _ p.0 p.1
-
-pub returns-in_err-walk-clause-goes : goal.returns-in_err-walk-clause-goes
-returns-in_err-walk-clause-goes g c = c.walk.ensures.goes
-
-pub returns-then-is_root-clause-sound : goal.returns-then-is_root-clause-sound
-returns-then-is_root-clause-sound g c = c.walk.ensures.sound
-
-pub returns-then-is_root-clause-forgets : goal.returns-then-is_root-clause-forgets
-returns-then-is_root-clause-forgets g c = tt
-
-pub returns-then-is_root-clause-goes : goal.returns-then-is_root-clause-goes
-returns-then-is_root-clause-goes g c = c.walk.ensures.goes
-
-pub returns-in_err-dir-clause-sound : goal.returns-in_err-dir-clause-sound
-returns-in_err-dir-clause-sound g c = c.walk_to_dir.ensures.sound
 
 pub returns-in_err-dir-clause-forgets : goal.returns-in_err-dir-clause-forgets
 returns-in_err-dir-clause-forgets g c = let p = err_from_is_err_and c.from_residual-in_err-dir.result c.from_residual-in_err-dir.ensures.1 in never_ok _ _ p.0 p.1
 
-pub returns-then-is_root-2-clause-sound : goal.returns-then-is_root-2-clause-sound
-returns-then-is_root-2-clause-sound g c = c.walk_to_dir.ensures.sound
-
-pub returns-then-is_root-2-clause-forgets : goal.returns-then-is_root-2-clause-forgets
-returns-then-is_root-2-clause-forgets g c = tt
-
-pub returns-then-is_below-clause-sound : goal.returns-then-is_below-clause-sound
-returns-then-is_below-clause-sound g c = c.walk_to_dir.ensures.sound
-
-pub returns-then-is_below-clause-forgets : goal.returns-then-is_below-clause-forgets
-returns-then-is_below-clause-forgets g c = tt
-
-pub returns-in_err-from-clause-sound : goal.returns-in_err-from-clause-sound
-returns-in_err-from-clause-sound g c = c.walk_to_row.ensures.sound
-
 pub returns-in_err-from-clause-forgets : goal.returns-in_err-from-clause-forgets
 returns-in_err-from-clause-forgets g c = let p = err_from_is_err_and c.from_residual-in_err-from.result c.from_residual-in_err-from.ensures.1 in never_ok _ _ p.0 p.1
-
-pub returns-clause-in_step : goal.returns-clause-in_step
-returns-clause-in_step g c = c.rename_row.ensures.in_step
-
-pub returns-clause-sound : goal.returns-clause-sound
-returns-clause-sound g c = c.rename_row.ensures.sound
-
-pub walk-requires-clause-sound : goal.walk-requires-clause-sound
-walk-requires-clause-sound g c = c.requires.sound
-
-pub walk-requires-clause-can : goal.walk-requires-clause-can
-walk-requires-clause-can g c = c.requires.can
-
-pub walk-requires-clause-in_step : goal.walk-requires-clause-in_step
-walk-requires-clause-in_step g c = c.requires.in_step
-
-pub walk_to_dir-requires-clause-sound : goal.walk_to_dir-requires-clause-sound
-walk_to_dir-requires-clause-sound g c = c.walk.ensures.sound
-
-pub walk_to_dir-requires-clause-can : goal.walk_to_dir-requires-clause-can
-walk_to_dir-requires-clause-can g c = c.walk.ensures.can
-
-pub walk_to_row-requires-clause-sound : goal.walk_to_row-requires-clause-sound
-walk_to_row-requires-clause-sound g c = c.walk_to_dir.ensures.sound
-
-pub walk_to_row-requires-clause-can : goal.walk_to_row-requires-clause-can
-walk_to_row-requires-clause-can g c = c.walk_to_dir.ensures.can
-
-pub walk_to_row-requires-clause-path : goal.walk_to_row-requires-clause-path
-walk_to_row-requires-clause-path g c = c.requires.path
-
-pub rename_row-requires-clause-sound : goal.rename_row-requires-clause-sound
-rename_row-requires-clause-sound g c = c.walk_to_row.ensures.sound
-
-pub rename_row-requires-clause-can : goal.rename_row-requires-clause-can
-rename_row-requires-clause-can g c = c.walk_to_row.ensures.can
-
-pub rename_row-requires-clause-is_name : goal.rename_row-requires-clause-is_name
-rename_row-requires-clause-is_name g c = c.cut_last.ensures.name

@@ -28,9 +28,6 @@ returns-in_err-found-clause-leaves g c =
     let p = err_from_is_err_and c.from_residual.result c.from_residual.ensures.1 in
     λ s reads. ends_look SaysDone shape x k y j s (rename_row_of s busy from.dir.0 old dir name from.ino.0 (get s.names (dir, name))) (NoneDone s) c.from_residual.result _ p.0 p.1 p.2 c.requires.can.ready (g.met.V.Volume.settled _ c.requires.sound) leaves reads (refl, refl) (fails_unrefused s (rename_row_of s busy from.dir.0 old dir name from.ino.0 (get s.names (dir, name))) c.look_up_in.result _ c.in_err-found.was c.look_up_in.ensures.other)
 
-pub returns-in_err-found-clause-goes : goal.returns-in_err-found-clause-goes
-returns-in_err-found-clause-goes g c = c.look_up_in.ensures.goes
-
 pub returns-in_err-found-clause-ends : goal.returns-in_err-found-clause-ends
 returns-in_err-found-clause-ends g c =
     let p = err_from_is_err_and c.from_residual.result c.from_residual.ensures.1 in
@@ -159,50 +156,5 @@ put_over-requires-clause-in_step g c = same_step c.args.shape.now _ _ _ c.look_u
 pub put_over-requires-clause-from : goal.put_over-requires-clause-from
 put_over-requires-clause-from g c = subst (λ f. IsRow c.args.shape.now f c.args.old.now c.args.from) (sym c.look_up_in.ensures.words) c.requires.from
 
-pub look_up_in-requires-clause-sound : goal.look_up_in-requires-clause-sound
-look_up_in-requires-clause-sound g c = c.requires.sound
-
-pub look_up_in-requires-clause-can : goal.look_up_in-requires-clause-can
-look_up_in-requires-clause-can g c = c.requires.can
-
-pub look_up_in-requires-clause-in_step : goal.look_up_in-requires-clause-in_step
-look_up_in-requires-clause-in_step g c = c.requires.in_step
-
-pub look_up_in-requires-clause-dir : goal.look_up_in-requires-clause-dir
-look_up_in-requires-clause-dir g c = c.requires.dir
-
-pub move_to-requires-clause-sound : goal.move_to-requires-clause-sound
-move_to-requires-clause-sound g c = c.look_up_in.ensures.sound
-
-pub move_to-requires-clause-can : goal.move_to-requires-clause-can
-move_to-requires-clause-can g c = c.look_up_in.ensures.can
-
-pub move_to-requires-clause-is_name : goal.move_to-requires-clause-is_name
-move_to-requires-clause-is_name g c = c.requires.is_name
-
-pub put_over-requires-clause-sound : goal.put_over-requires-clause-sound
-put_over-requires-clause-sound g c = c.look_up_in.ensures.sound
-
-pub put_over-requires-clause-can : goal.put_over-requires-clause-can
-put_over-requires-clause-can g c = c.look_up_in.ensures.can
-
-pub put_over-requires-clause-is_name : goal.put_over-requires-clause-is_name
-put_over-requires-clause-is_name g c = c.requires.is_name
-
 pub returns-in_err-found-clause-forgets : goal.returns-in_err-found-clause-forgets
 returns-in_err-found-clause-forgets g c = let p = err_from_is_err_and c.from_residual.result c.from_residual.ensures.1 in never_ok _ _ p.0 p.1
-
-pub returns-in_err-found-clause-sound : goal.returns-in_err-found-clause-sound
-returns-in_err-found-clause-sound g c = c.look_up_in.ensures.sound
-
-pub returns-in-None-clause-in_step : goal.returns-in-None-clause-in_step
-returns-in-None-clause-in_step g c = c.move_to.ensures.in_step
-
-pub returns-in-None-clause-sound : goal.returns-in-None-clause-sound
-returns-in-None-clause-sound g c = c.move_to.ensures.sound
-
-pub returns-in-Some-clause-in_step : goal.returns-in-Some-clause-in_step
-returns-in-Some-clause-in_step g c = c.put_over.ensures.in_step
-
-pub returns-in-Some-clause-sound : goal.returns-in-Some-clause-sound
-returns-in-Some-clause-sound g c = c.put_over.ensures.sound

@@ -25,65 +25,11 @@ returns-clause-value g c =
 pub returns-clause-looks : goal.returns-clause-looks
 returns-clause-looks g c = look_trans _ _ _ _ c.in_ok-table.ensures.looks c.table_word.ensures.looks
 
-pub returns-in_err-word-clause-looks : goal.returns-in_err-word-clause-looks
-returns-in_err-word-clause-looks g c = c.inode_word.ensures.looks
-
-pub returns-in_err-word-clause-passes : goal.returns-in_err-word-clause-passes
-returns-in_err-word-clause-passes g c = c.inode_word.ensures.passes
-
-pub returns-in_err-word-clause-sound : goal.returns-in_err-word-clause-sound
-returns-in_err-word-clause-sound g c = c.inode_word.ensures.sound
-
-pub returns-then-index-lt-DIRECT_PAGES-clause-looks : goal.returns-then-index-lt-DIRECT_PAGES-clause-looks
-returns-then-index-lt-DIRECT_PAGES-clause-looks g c = c.inode_word.ensures.looks
-
-pub returns-then-index-lt-DIRECT_PAGES-clause-passes : goal.returns-then-index-lt-DIRECT_PAGES-clause-passes
-returns-then-index-lt-DIRECT_PAGES-clause-passes g c = c.inode_word.ensures.passes
-
-pub returns-then-index-lt-DIRECT_PAGES-clause-sound : goal.returns-then-index-lt-DIRECT_PAGES-clause-sound
-returns-then-index-lt-DIRECT_PAGES-clause-sound g c = c.inode_word.ensures.sound
-
-pub returns-in_err-table-clause-looks : goal.returns-in_err-table-clause-looks
-returns-in_err-table-clause-looks g c = c.inode_word-2.ensures.looks
-
-pub returns-in_err-table-clause-passes : goal.returns-in_err-table-clause-passes
-returns-in_err-table-clause-passes g c = c.inode_word-2.ensures.passes
-
-pub returns-in_err-table-clause-sound : goal.returns-in_err-table-clause-sound
-returns-in_err-table-clause-sound g c = c.inode_word-2.ensures.sound
-
 pub returns-in_err-word-2-clause-passes : goal.returns-in_err-word-2-clause-passes
 returns-in_err-word-2-clause-passes g c = g.met.V.Blocks.passes_trans _ _ _ c.inode_word-2.ensures.passes c.table_word.ensures.passes
 
-pub returns-in_err-word-2-clause-sound : goal.returns-in_err-word-2-clause-sound
-returns-in_err-word-2-clause-sound g c = c.table_word.ensures.sound
-
 pub returns-clause-passes : goal.returns-clause-passes
 returns-clause-passes g c = g.met.V.Blocks.passes_trans _ _ _ c.inode_word-2.ensures.passes c.table_word.ensures.passes
-
-pub returns-clause-sound : goal.returns-clause-sound
-returns-clause-sound g c = c.table_word.ensures.sound
-
-pub inode_word-requires-clause-sound : goal.inode_word-requires-clause-sound
-inode_word-requires-clause-sound g c = c.requires.sound
-
-pub inode_word-requires-clause-can : goal.inode_word-requires-clause-can
-inode_word-requires-clause-can g c = c.requires.can
-
-pub inode_word-requires-clause-ino : goal.inode_word-requires-clause-ino
-inode_word-requires-clause-ino g c = c.requires.ino
-
-pub inode_word-requires-2-clause-sound : goal.inode_word-requires-2-clause-sound
-inode_word-requires-2-clause-sound g c = c.requires.sound
-
-pub inode_word-requires-2-clause-can : goal.inode_word-requires-2-clause-can
-inode_word-requires-2-clause-can g c = c.requires.can
-
-pub inode_word-requires-2-clause-ino : goal.inode_word-requires-2-clause-ino
-inode_word-requires-2-clause-ino g c = c.requires.ino
-
-pub table_word-requires-clause-sound : goal.table_word-requires-clause-sound
-table_word-requires-clause-sound g c = c.inode_word-2.ensures.sound
 
 pub returns-clause-ends : goal.returns-clause-ends
 returns-clause-ends g c = ends_vol_ok _ _ _ (le_trans c.inode_word-2.ensures.ends.later c.table_word.ensures.ends.later) (c.in_ok-word-2.ensures.ends.cause ∙ c.in_ok-table.ensures.ends.cause)
@@ -114,9 +60,6 @@ inode_word-requires-clause-word g c = omega arith
 
 pub inode_word-requires-2-clause-word : goal.inode_word-requires-2-clause-word
 inode_word-requires-2-clause-word g c = omega arith
-
-pub table_word-requires-clause-can : goal.table_word-requires-clause-can
-table_word-requires-clause-can g c = c.inode_word-2.ensures.looks.still
 
 pub table_word-requires-clause-owns : goal.table_word-requires-clause-owns
 table_word-requires-clause-owns g c = subst (λ (f : BlockWords). Owns (volume_layout c.args.shape.now f) c.args.i.0 (AtTable 0)) (sym c.inode_word-2.ensures.looks.looks.words) (record { ino = c.requires.ino; slot = first_table _ c.args.index c.requires.page (omega arith) })

@@ -6,23 +6,8 @@ use Rattle.node_pages.proofs.lookup.read_table.Goals as goal
 pub returns-clause-looks : goal.returns-clause-looks
 returns-clause-looks g c = looked_table c.args.shape.now _ _ c.args.i.0 0 c.args.table.0 c.requires.can c.requires.owns c.requires.table c.read_run.ensures.looks c.read_run.ensures.caches
 
-pub returns-clause-ends : goal.returns-clause-ends
-returns-clause-ends g c = c.read_run.ensures.ends
-
-pub returns-clause-passes : goal.returns-clause-passes
-returns-clause-passes g c = c.read_run.ensures.passes
-
-pub returns-clause-sound : goal.returns-clause-sound
-returns-clause-sound g c = c.read_run.ensures.sound
-
-pub returns-clause-len : goal.returns-clause-len
-returns-clause-len g c = c.read_run.ensures.len
-
 pub returns-clause-words : goal.returns-clause-words
 returns-clause-words g c = subst (λ b. OnOk c.read_run.result (IsRun (g.V.Blocks.seen c.args.v.now).words b c.args.w (length c.args.into.now) c.read_run.new.into)) c.requires.table c.read_run.ensures.words
-
-pub read_run-requires-clause-sound : goal.read_run-requires-clause-sound
-read_run-requires-clause-sound g c = c.requires.sound
 
 pub read_run-requires-clause-name : goal.read_run-requires-clause-name
 read_run-requires-clause-name g c = subst (λ b. CanName (g.V.Blocks.seen c.args.v.now) b None) (sym c.requires.table) (can_table c.args.shape.now _ c.args.i.0 0 c.requires.can c.requires.owns)

@@ -6,20 +6,8 @@ use Rattle.node_pages.proofs.lookup.table_word.Goals as goal
 pub returns-clause-looks : goal.returns-clause-looks
 returns-clause-looks g c = looked_table c.args.shape.now _ _ c.args.i.0 0 c.args.table.0 c.requires.can c.requires.owns c.requires.table c.word.ensures.looks c.word.ensures.caches
 
-pub returns-clause-ends : goal.returns-clause-ends
-returns-clause-ends g c = c.word.ensures.ends
-
-pub returns-clause-passes : goal.returns-clause-passes
-returns-clause-passes g c = c.word.ensures.passes
-
-pub returns-clause-sound : goal.returns-clause-sound
-returns-clause-sound g c = c.word.ensures.sound
-
 pub returns-clause-value : goal.returns-clause-value
 returns-clause-value g c = if_ok_map _ _ c.word.result (λ x h. h ∙ ap (λ b. (g.V.Blocks.seen c.args.v.now).words b c.args.w) c.requires.table) c.word.ensures.value
-
-pub word-requires-clause-sound : goal.word-requires-clause-sound
-word-requires-clause-sound g c = c.requires.sound
 
 pub word-requires-clause-name : goal.word-requires-clause-name
 word-requires-clause-name g c = subst (λ b. CanName (g.V.Blocks.seen c.args.v.now) b None) (sym c.requires.table) (can_table c.args.shape.now _ c.args.i.0 0 c.requires.can c.requires.owns)

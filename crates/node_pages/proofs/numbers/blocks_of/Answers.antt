@@ -33,56 +33,20 @@ returns-clause-value g c =
     (table_test c.table_count.result inode.size n.size c.table_count.ensures.tables size)
     (λ on. own.indirect ∙ table_of f i n 0 (lies_self f i) (record { used = c.requires.used; within = (let one = table_is c.table_count.result on in let t = c.table_count.ensures.tables in let b = ap tables size in omega (arith, one, t, b)) }))
 
-pub look_inode-requires-clause-sound : goal.look_inode-requires-clause-sound
-look_inode-requires-clause-sound g c = c.requires.sound
-
-pub look_inode-requires-clause-can : goal.look_inode-requires-clause-can
-look_inode-requires-clause-can g c = c.requires.can
-
-pub look_inode-requires-clause-ino : goal.look_inode-requires-clause-ino
-look_inode-requires-clause-ino g c = c.requires.ino
-
-pub page_blocks-requires-clause-sound : goal.page_blocks-requires-clause-sound
-page_blocks-requires-clause-sound g c = c.look_inode.ensures.sound
-
-pub page_blocks-requires-clause-ino : goal.page_blocks-requires-clause-ino
-page_blocks-requires-clause-ino g c = c.requires.ino
-
-pub returns-in_err-inode-clause-looks : goal.returns-in_err-inode-clause-looks
-returns-in_err-inode-clause-looks g c = c.look_inode.ensures.looks
-
-pub returns-in_err-inode-clause-passes : goal.returns-in_err-inode-clause-passes
-returns-in_err-inode-clause-passes g c = c.look_inode.ensures.passes
-
-pub returns-in_err-inode-clause-sound : goal.returns-in_err-inode-clause-sound
-returns-in_err-inode-clause-sound g c = c.look_inode.ensures.sound
-
 pub returns-in_err-blocks-clause-passes : goal.returns-in_err-blocks-clause-passes
 returns-in_err-blocks-clause-passes g c = g.met.V.Blocks.passes_trans _ _ _ c.look_inode.ensures.passes c.page_blocks.ensures.passes
-
-pub returns-in_err-blocks-clause-sound : goal.returns-in_err-blocks-clause-sound
-returns-in_err-blocks-clause-sound g c = c.page_blocks.ensures.sound
 
 pub returns-in_err-push_table-clause-passes : goal.returns-in_err-push_table-clause-passes
 returns-in_err-push_table-clause-passes g c = g.met.V.Blocks.passes_trans _ _ _ c.look_inode.ensures.passes c.page_blocks.ensures.passes
 
-pub returns-in_err-push_table-clause-sound : goal.returns-in_err-push_table-clause-sound
-returns-in_err-push_table-clause-sound g c = c.page_blocks.ensures.sound
-
 pub returns-clause-passes : goal.returns-clause-passes
 returns-clause-passes g c = g.met.V.Blocks.passes_trans _ _ _ c.look_inode.ensures.passes c.page_blocks.ensures.passes
-
-pub returns-clause-sound : goal.returns-clause-sound
-returns-clause-sound g c = c.page_blocks.ensures.sound
 
 pub returns-in_err-blocks-clause-ends : goal.returns-in_err-blocks-clause-ends
 returns-in_err-blocks-clause-ends g c = let p = err_from_is_err_and c.from_residual-in_err-blocks.result c.from_residual-in_err-blocks.ensures.1 in ends_by_after _ _ _ _ _ c.look_inode.ensures.ends.later c.in_ok-inode.ensures.ends.cause (ends_read _ _ _ c.from_residual-in_err-blocks.result _ p.0 c.in_err-blocks.was p.1 p.2 c.page_blocks.ensures.ends)
 
 pub returns-clause-ends : goal.returns-clause-ends
 returns-clause-ends g c = ends_read_ok _ _ _ (le_trans c.look_inode.ensures.ends.later c.page_blocks.ensures.ends.later) (read_runs _ _ _ c.in_ok-blocks.ensures.ends ∙ c.in_ok-inode.ensures.ends.cause)
-
-pub page_blocks-requires-clause-can : goal.page_blocks-requires-clause-can
-page_blocks-requires-clause-can g c = c.look_inode.ensures.looks.still
 
 pub page_blocks-requires-clause-inode : goal.page_blocks-requires-clause-inode
 page_blocks-requires-clause-inode g c = let own = c.in_ok-inode.ensures.value in let used = c.requires.used in subst (λ (f : BlockWords). PlansFor f c.args.i.0 c.in_ok-inode.inode) (sym c.look_inode.ensures.looks.looks.words) (inl (own, omega (arith, own.kind, used)))

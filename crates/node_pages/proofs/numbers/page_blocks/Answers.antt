@@ -66,38 +66,8 @@ returns-in_err-blocks-clause-ends g c =
     let p = err_from_is_err_and c.from_residual-in_err-blocks.result c.from_residual-in_err-blocks.ensures.1 in
     ends_read _ _ _ c.from_residual-in_err-blocks.result _ p.0 c.in_err-blocks.was p.1 p.2 c.push_later.ensures.ends
 
-pub returns-in_err-blocks-clause-looks : goal.returns-in_err-blocks-clause-looks
-returns-in_err-blocks-clause-looks g c = c.push_later.ensures.looks
-
-pub returns-in_err-blocks-clause-passes : goal.returns-in_err-blocks-clause-passes
-returns-in_err-blocks-clause-passes g c = c.push_later.ensures.passes
-
-pub returns-in_err-blocks-clause-sound : goal.returns-in_err-blocks-clause-sound
-returns-in_err-blocks-clause-sound g c = c.push_later.ensures.sound
-
-pub returns-clause-looks : goal.returns-clause-looks
-returns-clause-looks g c = c.push_later.ensures.looks
-
-pub returns-clause-passes : goal.returns-clause-passes
-returns-clause-passes g c = c.push_later.ensures.passes
-
-pub returns-clause-sound : goal.returns-clause-sound
-returns-clause-sound g c = c.push_later.ensures.sound
-
-pub returns-in_err-push_direct-clause-sound : goal.returns-in_err-push_direct-clause-sound
-returns-in_err-push_direct-clause-sound g c = c.requires.sound
-
-pub returns-then-middle-end-clause-sound : goal.returns-then-middle-end-clause-sound
-returns-then-middle-end-clause-sound g c = c.requires.sound
-
 pub returns-clause-ends : goal.returns-clause-ends
 returns-clause-ends g c = ends_read_on _ _ _ _ c.in_ok-blocks.ensures.ends
-
-pub push_later-requires-clause-sound : goal.push_later-requires-clause-sound
-push_later-requires-clause-sound g c = c.requires.sound
-
-pub push_later-requires-clause-can : goal.push_later-requires-clause-can
-push_later-requires-clause-can g c = c.requires.can
 
 pub push_later-requires-clause-order : goal.push_later-requires-clause-order
 push_later-requires-clause-order g c = omega (arith, c.if-middle-end.false, c.min-middle.ensures)

@@ -37,35 +37,11 @@ returns-clause-value g c = λ many odd.
     let last = pages given.size - 1 in
     later_value f i last c.in_ok-word.word _ ((c.page_count-have.result - 1 - 24) / 2) (omega (arith, many)) (all.back (AtPage last) (record { used = all.used; within = (omega (arith, many)) })) (omega (arith, is)) c.in_ok-word.ensures.value (c.number_in.ensures ∙ ap (λ (h : ℕ). half c.in_ok-word.word (h - 1)) is)
 
-pub table_word-requires-clause-can : goal.table_word-requires-clause-can
-table_word-requires-clause-can g c = c.requires.can
-
-pub table_word-requires-clause-sound : goal.table_word-requires-clause-sound
-table_word-requires-clause-sound g c = c.requires.sound
-
 pub returns-clause-ends : goal.returns-clause-ends
 returns-clause-ends g c = ends_vol_ok _ _ _ c.table_word.ensures.ends.later c.in_ok-word.ensures.ends.cause
 
-pub returns-clause-looks : goal.returns-clause-looks
-returns-clause-looks g c = c.table_word.ensures.looks
-
-pub returns-clause-passes : goal.returns-clause-passes
-returns-clause-passes g c = c.table_word.ensures.passes
-
-pub returns-clause-sound : goal.returns-clause-sound
-returns-clause-sound g c = c.table_word.ensures.sound
-
 pub returns-in_err-word-clause-ends : goal.returns-in_err-word-clause-ends
 returns-in_err-word-clause-ends g c = let p = err_from_is_err_and c.from_residual.result c.from_residual.ensures.1 in ends_vol _ _ c.table_word.result c.from_residual.result _ p.0 c.in_err-word.was p.1 p.2 c.table_word.ensures.ends
-
-pub returns-in_err-word-clause-looks : goal.returns-in_err-word-clause-looks
-returns-in_err-word-clause-looks g c = c.table_word.ensures.looks
-
-pub returns-in_err-word-clause-passes : goal.returns-in_err-word-clause-passes
-returns-in_err-word-clause-passes g c = c.table_word.ensures.passes
-
-pub returns-in_err-word-clause-sound : goal.returns-in_err-word-clause-sound
-returns-in_err-word-clause-sound g c = c.table_word.ensures.sound
 
 pub returns-in_err-word-clause-value : goal.returns-in_err-word-clause-value
 returns-in_err-word-clause-value g c = if_err c.from_residual.result _ c.from_residual.ensures.0
@@ -78,6 +54,3 @@ returns-then-have-le-DIRECT_PAGES-clause-looks g c = look_refl c.args.shape.now 
 
 pub returns-then-have-le-DIRECT_PAGES-clause-passes : goal.returns-then-have-le-DIRECT_PAGES-clause-passes
 returns-then-have-le-DIRECT_PAGES-clause-passes g c = g.met.V.Blocks.passes_refl _
-
-pub returns-then-have-le-DIRECT_PAGES-clause-sound : goal.returns-then-have-le-DIRECT_PAGES-clause-sound
-returns-then-have-le-DIRECT_PAGES-clause-sound g c = c.requires.sound

@@ -101,32 +101,8 @@ returns-in_err-edits-clause-free g c = keeps_staged c.args.shape.now _ _ _ _ c.a
 pub returns-clause-free : goal.returns-clause-free
 returns-clause-free g c = keeps_staged c.args.shape.now _ _ _ _ c.as_slice-blocks.result.now c.args.taken _ _ _ _ _ _ c.last_number.ensures.looks (g.met.V.Volume.passes_keeps _ _ c.last_number.ensures.passes) c.as_slice-blocks.ensures c.stage_blocks.ensures.beside
 
-pub returns-in_err-last-clause-sound : goal.returns-in_err-last-clause-sound
-returns-in_err-last-clause-sound g c = c.last_number.ensures.sound
-
-pub returns-in_err-stage_blocks-clause-sound : goal.returns-in_err-stage_blocks-clause-sound
-returns-in_err-stage_blocks-clause-sound g c = c.stage_blocks.ensures.sound
-
-pub returns-in_err-edits-clause-sound : goal.returns-in_err-edits-clause-sound
-returns-in_err-edits-clause-sound g c = c.stage_blocks.ensures.sound
-
-pub returns-clause-sound : goal.returns-clause-sound
-returns-clause-sound g c = c.stage_blocks.ensures.sound
-
 pub returns-in_err-last-clause-goes : goal.returns-in_err-last-clause-goes
 returns-in_err-last-clause-goes g c = (g.met.V.Volume.passes_keeps _ _ c.last_number.ensures.passes).goes
-
-pub last_number-requires-clause-sound : goal.last_number-requires-clause-sound
-last_number-requires-clause-sound g c = c.requires.sound
-
-pub last_number-requires-clause-ino : goal.last_number-requires-clause-ino
-last_number-requires-clause-ino g c = c.requires.ino
-
-pub last_number-requires-clause-inode : goal.last_number-requires-clause-inode
-last_number-requires-clause-inode g c = c.requires.inode
-
-pub stage_blocks-requires-clause-sound : goal.stage_blocks-requires-clause-sound
-stage_blocks-requires-clause-sound g c = c.last_number.ensures.sound
 
 pub returns-in_err-last-clause-ok : goal.returns-in_err-last-clause-ok
 returns-in_err-last-clause-ok g c = if_err c.from_residual.result _ c.from_residual.ensures.0
@@ -142,9 +118,6 @@ stage_blocks-requires-clause-apart g c = subst (λ bs. Apart (numbers bs)) (sym 
 
 pub stage_blocks-requires-clause-few : goal.stage_blocks-requires-clause-few
 stage_blocks-requires-clause-few g c = let have_is = c.page_count-have.ensures.pages in let want_is = c.page_count-want.ensures.pages in let grows = c.requires.grows in let most = c.requires.fits.most in omega (arith, have_is, want_is, grows, most)
-
-pub stage_blocks-requires-clause-file : goal.stage_blocks-requires-clause-file
-stage_blocks-requires-clause-file g c = c.requires.ino.from
 
 pub stage_blocks-requires-clause-file_to : goal.stage_blocks-requires-clause-file_to
 stage_blocks-requires-clause-file_to g c = let to = c.requires.ino.to in let most = c.requires.ready.order.has_shape.sizes.inodes_to in omega (arith, to, most)

@@ -315,54 +315,6 @@ returns-clause-ends g c =
 pub take_beside-requires-clause-few : goal.take_beside-requires-clause-few
 take_beside-requires-clause-few g c = taken_most c.args.inode.now.size c.args.len _ c.wanted_count-wanted.ensures.wanted (omega (arith, c.if-len-inode.false)) (omega (arith, c.if-len-gt-LARGEST_SIZE.false))
 
-pub returns-then-len-inode-clause-sound : goal.returns-then-len-inode-clause-sound
-returns-then-len-inode-clause-sound g c = c.plan_shrink.ensures.sound
-
-pub returns-in_err-taken-clause-sound : goal.returns-in_err-taken-clause-sound
-returns-in_err-taken-clause-sound g c = c.take_beside.ensures.sound
-
-pub returns-clause-sound : goal.returns-clause-sound
-returns-clause-sound g c = c.plan_growth.ensures.sound
-
-pub returns-then-len-gt-LARGEST_SIZE-clause-sound : goal.returns-then-len-gt-LARGEST_SIZE-clause-sound
-returns-then-len-gt-LARGEST_SIZE-clause-sound g c = c.requires.sound
-
-pub returns-then-len-inode-clause-ends : goal.returns-then-len-inode-clause-ends
-returns-then-len-inode-clause-ends g c = c.plan_shrink.ensures.ends
-
-pub plan_shrink-requires-clause-sound : goal.plan_shrink-requires-clause-sound
-plan_shrink-requires-clause-sound g c = c.requires.sound
-
-pub plan_shrink-requires-clause-ino : goal.plan_shrink-requires-clause-ino
-plan_shrink-requires-clause-ino g c = c.requires.ino
-
-pub plan_shrink-requires-clause-inode : goal.plan_shrink-requires-clause-inode
-plan_shrink-requires-clause-inode g c = c.requires.inode
-
-pub take_beside-requires-clause-sound : goal.take_beside-requires-clause-sound
-take_beside-requires-clause-sound g c = c.requires.sound
-
-pub take_beside-requires-clause-ready : goal.take_beside-requires-clause-ready
-take_beside-requires-clause-ready g c = c.requires.ready
-
-pub take_beside-requires-clause-skip : goal.take_beside-requires-clause-skip
-take_beside-requires-clause-skip g c = c.requires.skip
-
-pub take_beside-requires-clause-once : goal.take_beside-requires-clause-once
-take_beside-requires-clause-once g c = c.requires.once
-
-pub plan_growth-requires-clause-sound : goal.plan_growth-requires-clause-sound
-plan_growth-requires-clause-sound g c = c.take_beside.ensures.sound
-
-pub plan_growth-requires-clause-ino : goal.plan_growth-requires-clause-ino
-plan_growth-requires-clause-ino g c = c.requires.ino
-
-pub returns-then-len-gt-LARGEST_SIZE-clause-ok : goal.returns-then-len-gt-LARGEST_SIZE-clause-ok
-returns-then-len-gt-LARGEST_SIZE-clause-ok g c = tt
-
-pub returns-then-len-gt-LARGEST_SIZE-clause-space : goal.returns-then-len-gt-LARGEST_SIZE-clause-space
-returns-then-len-gt-LARGEST_SIZE-clause-space g c = tt
-
 pub returns-then-len-gt-LARGEST_SIZE-clause-too_large : goal.returns-then-len-gt-LARGEST_SIZE-clause-too_large
 returns-then-len-gt-LARGEST_SIZE-clause-too_large g c = λ is. omega (arith, c.if-len-gt-LARGEST_SIZE.true)
 
@@ -395,9 +347,6 @@ plan_shrink-requires-clause-less g c = c.if-len-inode.true
 
 pub plan_shrink-requires-clause-fits : goal.plan_shrink-requires-clause-fits
 plan_shrink-requires-clause-fits g c = c.requires.fits (omega (arith, c.if-len-gt-LARGEST_SIZE.false))
-
-pub plan_shrink-requires-clause-laid : goal.plan_shrink-requires-clause-laid
-plan_shrink-requires-clause-laid g c = c.requires.ready.order.mapped.laid
 
 pub plan_shrink-requires-clause-can : goal.plan_shrink-requires-clause-can
 plan_shrink-requires-clause-can g c = can_look_up c.args.shape.now _ c.requires.ready.order.has_shape c.requires.ready.order.mapped c.requires.ready.order.named

@@ -72,45 +72,6 @@ returns-in_err-push_table-clause-other g c =
 pub returns-clause-other : goal.returns-clause-other
 returns-clause-other g c = unrefused_ok _
 
-pub page_blocks-requires-clause-can : goal.page_blocks-requires-clause-can
-page_blocks-requires-clause-can g c = c.requires.can
-
-pub page_blocks-requires-clause-ino : goal.page_blocks-requires-clause-ino
-page_blocks-requires-clause-ino g c = c.requires.ino
-
-pub page_blocks-requires-clause-inode : goal.page_blocks-requires-clause-inode
-page_blocks-requires-clause-inode g c = c.requires.inode
-
-pub page_blocks-requires-clause-sound : goal.page_blocks-requires-clause-sound
-page_blocks-requires-clause-sound g c = c.requires.sound
-
-pub returns-clause-looks : goal.returns-clause-looks
-returns-clause-looks g c = c.page_blocks.ensures.looks
-
-pub returns-in_err-freed-clause-looks : goal.returns-in_err-freed-clause-looks
-returns-in_err-freed-clause-looks g c = c.page_blocks.ensures.looks
-
-pub returns-in_err-push_table-clause-looks : goal.returns-in_err-push_table-clause-looks
-returns-in_err-push_table-clause-looks g c = c.page_blocks.ensures.looks
-
-pub returns-clause-passes : goal.returns-clause-passes
-returns-clause-passes g c = c.page_blocks.ensures.passes
-
-pub returns-in_err-freed-clause-passes : goal.returns-in_err-freed-clause-passes
-returns-in_err-freed-clause-passes g c = c.page_blocks.ensures.passes
-
-pub returns-in_err-push_table-clause-passes : goal.returns-in_err-push_table-clause-passes
-returns-in_err-push_table-clause-passes g c = c.page_blocks.ensures.passes
-
-pub returns-clause-sound : goal.returns-clause-sound
-returns-clause-sound g c = c.page_blocks.ensures.sound
-
-pub returns-in_err-freed-clause-sound : goal.returns-in_err-freed-clause-sound
-returns-in_err-freed-clause-sound g c = c.page_blocks.ensures.sound
-
-pub returns-in_err-push_table-clause-sound : goal.returns-in_err-push_table-clause-sound
-returns-in_err-push_table-clause-sound g c = c.page_blocks.ensures.sound
-
 pub returns-in_err-freed-clause-ok : goal.returns-in_err-freed-clause-ok
 returns-in_err-freed-clause-ok g c = if_err c.from_residual.result _ c.from_residual.ensures.0
 

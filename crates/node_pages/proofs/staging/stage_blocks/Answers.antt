@@ -38,18 +38,6 @@ loop-t-preserved g c =
 pub returns-clause-zeroed : goal.returns-clause-zeroed
 returns-clause-zeroed g c = subst (λ n. Zeroed (numbers c.args.taken.now) (taken_name c.args.file.0 c.args.kind c.args.first c.args.count c.args.len) n (g.V.Blocks.seen c.loop-t.v) (g.V.Volume.kept c.loop-t.v)) (omega (arith, c.loop-t-test.false, c.loop-t.auto.t-end)) c.loop-t.invariant.zeroed
 
-pub returns-clause-beside : goal.returns-clause-beside
-returns-clause-beside g c = c.loop-t.invariant.beside
-
-pub returns-clause-idle : goal.returns-clause-idle
-returns-clause-idle g c = c.loop-t.invariant.idle
-
-pub returns-clause-goes : goal.returns-clause-goes
-returns-clause-goes g c = c.loop-t.invariant.goes
-
-pub returns-clause-sound : goal.returns-clause-sound
-returns-clause-sound g c = c.loop-t.invariant.sound
-
 pub returns-clause-ends : goal.returns-clause-ends
 returns-clause-ends g c = ends_vol_ok _ _ _ c.loop-t.invariant.later c.loop-t.invariant.running
 
@@ -59,29 +47,8 @@ returns-in_err-stage_taken-clause-ends g c = let p = err_from_is_err_and c.from_
 pub returns-in_err-stage_taken-clause-goes : goal.returns-in_err-stage_taken-clause-goes
 returns-in_err-stage_taken-clause-goes g c = goes_trans _ _ _ _ _ _ c.loop-t.invariant.goes c.stage_taken.ensures.goes
 
-pub returns-in_err-stage_taken-clause-idle : goal.returns-in_err-stage_taken-clause-idle
-returns-in_err-stage_taken-clause-idle g c = c.stage_taken.ensures.idle
-
-pub returns-in_err-stage_taken-clause-sound : goal.returns-in_err-stage_taken-clause-sound
-returns-in_err-stage_taken-clause-sound g c = c.stage_taken.ensures.sound
-
 pub returns-in_err-stage_taken-clause-zeroed : goal.returns-in_err-stage_taken-clause-zeroed
 returns-in_err-stage_taken-clause-zeroed g c = if_err c.from_residual.result _ c.from_residual.ensures.0
 
-pub stage_taken-requires-clause-idle : goal.stage_taken-requires-clause-idle
-stage_taken-requires-clause-idle g c = c.loop-t.invariant.idle
-
-pub stage_taken-requires-clause-sound : goal.stage_taken-requires-clause-sound
-stage_taken-requires-clause-sound g c = c.loop-t.invariant.sound
-
 pub stage_taken-requires-clause-place : goal.stage_taken-requires-clause-place
 stage_taken-requires-clause-place g c = block_place c.args.taken.now c.loop-t.t _ _ _ c.loop-t-test.true (c.requires.places c.loop-t.t c.loop-t-test.true) c.loop-t.invariant.beside.count
-
-pub stage_taken-requires-clause-few : goal.stage_taken-requires-clause-few
-stage_taken-requires-clause-few g c = c.requires.few
-
-pub stage_taken-requires-clause-file : goal.stage_taken-requires-clause-file
-stage_taken-requires-clause-file g c = c.requires.file
-
-pub stage_taken-requires-clause-file_to : goal.stage_taken-requires-clause-file_to
-stage_taken-requires-clause-file_to g c = c.requires.file_to

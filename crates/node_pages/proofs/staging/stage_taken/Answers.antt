@@ -4,47 +4,14 @@ use Rattle.node_pages.proofs.EndsOn.{ends_halted, if_err, on_ok}
 use Rattle.rio_base.proofs.BlockRules.{ends_later}
 use Rattle.node_pages.proofs.staging.stage_taken.Goals as goal
 
-pub returns-in_err-forget-clause-idle : goal.returns-in_err-forget-clause-idle
-returns-in_err-forget-clause-idle g c = c.forget.ensures.idle
-
-pub returns-in_err-forget-clause-goes : goal.returns-in_err-forget-clause-goes
-returns-in_err-forget-clause-goes g c = c.forget.ensures.goes
-
 pub returns-in_err-forget-clause-ends : goal.returns-in_err-forget-clause-ends
 returns-in_err-forget-clause-ends g c = let p = err_from_is_err_and c.from_residual.result c.from_residual.ensures.1 in ends_halted _ _ c.forget.result c.from_residual.result _ p.0 c.in_err-forget.was p.1 p.2 c.forget.ensures.ends
-
-pub returns-in_err-forget-clause-sound : goal.returns-in_err-forget-clause-sound
-returns-in_err-forget-clause-sound g c = c.forget.ensures.sound
-
-pub returns-clause-idle : goal.returns-clause-idle
-returns-clause-idle g c = c.fresh.ensures.idle
 
 pub returns-clause-goes : goal.returns-clause-goes
 returns-clause-goes g c = c.forget.ensures.goes then c.fresh.ensures.goes
 
 pub returns-clause-ends : goal.returns-clause-ends
 returns-clause-ends g c = ends_later _ _ _ _ c.forget.ensures.ends.later c.in_ok-forget.ensures.ends.cause c.fresh.ensures.ends
-
-pub returns-clause-sound : goal.returns-clause-sound
-returns-clause-sound g c = c.fresh.ensures.sound
-
-pub forget-requires-clause-sound : goal.forget-requires-clause-sound
-forget-requires-clause-sound g c = c.requires.sound
-
-pub forget-requires-clause-place : goal.forget-requires-clause-place
-forget-requires-clause-place g c = c.requires.place
-
-pub forget-requires-clause-idle : goal.forget-requires-clause-idle
-forget-requires-clause-idle g c = c.requires.idle
-
-pub fresh-requires-clause-sound : goal.fresh-requires-clause-sound
-fresh-requires-clause-sound g c = c.forget.ensures.sound
-
-pub fresh-requires-clause-idle : goal.fresh-requires-clause-idle
-fresh-requires-clause-idle g c = c.forget.ensures.idle
-
-pub fresh-requires-clause-uncached : goal.fresh-requires-clause-uncached
-fresh-requires-clause-uncached g c = c.in_ok-forget.ensures.ok.1
 
 pub returns-in_err-forget-clause-beside : goal.returns-in_err-forget-clause-beside
 returns-in_err-forget-clause-beside g c = beside_drops _ _ _ _ _ c.forget.ensures.count c.forget.ensures.others c.forget.ensures.standing c.forget.ensures.firm c.forget.ensures.drops
@@ -75,12 +42,3 @@ fresh-requires-clause-place g c = subst (λ n. c.args.b.0 < n) (sym c.forget.ens
 
 pub returns-clause-named : goal.returns-clause-named
 returns-clause-named g c = on_ok c.fresh.result _ _ (λ h on. fresh_named _ _ _ _ c.in_ok-forget.ensures.ok.1 c.fresh.ensures.caches on ∙ c.name_of-name.ensures.name) c.fresh.ensures.ok
-
-pub name_of-name-requires-clause-file : goal.name_of-name-requires-clause-file
-name_of-name-requires-clause-file g c = c.requires.file
-
-pub name_of-name-requires-clause-file_to : goal.name_of-name-requires-clause-file_to
-name_of-name-requires-clause-file_to g c = c.requires.file_to
-
-pub name_of-name-requires-clause-few : goal.name_of-name-requires-clause-few
-name_of-name-requires-clause-few g c = c.requires.few

@@ -45,38 +45,11 @@ returns-in_err-all-clause-value g c = if_err c.from_residual.result _ c.from_res
 pub returns-in_err-all-clause-room : goal.returns-in_err-all-clause-room
 returns-in_err-all-clause-room g c = if_err c.from_residual.result _ c.from_residual.ensures.0
 
-pub returns-in_err-all-clause-looks : goal.returns-in_err-all-clause-looks
-returns-in_err-all-clause-looks g c = c.take_lowest.ensures.looks
-
-pub returns-in_err-all-clause-passes : goal.returns-in_err-all-clause-passes
-returns-in_err-all-clause-passes g c = c.take_lowest.ensures.passes
-
-pub returns-in_err-all-clause-sound : goal.returns-in_err-all-clause-sound
-returns-in_err-all-clause-sound g c = c.take_lowest.ensures.sound
-
 pub returns-in_err-leave_out-clause-value : goal.returns-in_err-leave_out-clause-value
 returns-in_err-leave_out-clause-value g c = if_err c.from_residual-in_err-leave_out.result _ c.from_residual-in_err-leave_out.ensures.0
 
 pub returns-in_err-leave_out-clause-room : goal.returns-in_err-leave_out-clause-room
 returns-in_err-leave_out-clause-room g c = if_err c.from_residual-in_err-leave_out.result _ c.from_residual-in_err-leave_out.ensures.0
-
-pub returns-in_err-leave_out-clause-looks : goal.returns-in_err-leave_out-clause-looks
-returns-in_err-leave_out-clause-looks g c = c.take_lowest.ensures.looks
-
-pub returns-in_err-leave_out-clause-passes : goal.returns-in_err-leave_out-clause-passes
-returns-in_err-leave_out-clause-passes g c = c.take_lowest.ensures.passes
-
-pub returns-in_err-leave_out-clause-sound : goal.returns-in_err-leave_out-clause-sound
-returns-in_err-leave_out-clause-sound g c = c.take_lowest.ensures.sound
-
-pub returns-clause-looks : goal.returns-clause-looks
-returns-clause-looks g c = c.take_lowest.ensures.looks
-
-pub returns-clause-passes : goal.returns-clause-passes
-returns-clause-passes g c = c.take_lowest.ensures.passes
-
-pub returns-clause-sound : goal.returns-clause-sound
-returns-clause-sound g c = c.take_lowest.ensures.sound
 
 pub returns-in_err-all-clause-small : goal.returns-in_err-all-clause-small
 returns-in_err-all-clause-small g c = let p = err_from_is_err_and c.from_residual.result c.from_residual.ensures.1 in λ is. c.take_lowest.ensures.small (err_handed _ _ _ _ _ c.in_err-all.was p.1 p.2 is)
@@ -101,9 +74,3 @@ returns-clause-no_space g c = λ is. absurd ((unrefused_ok _).0 is)
 
 pub returns-clause-ends : goal.returns-clause-ends
 returns-clause-ends g c = ends_well_ok _ _ _ c.take_lowest.ensures.ends.later (size_runs _ _ _ c.in_ok-all.ensures.ends)
-
-pub take_lowest-requires-clause-sound : goal.take_lowest-requires-clause-sound
-take_lowest-requires-clause-sound g c = c.requires.sound
-
-pub take_lowest-requires-clause-ready : goal.take_lowest-requires-clause-ready
-take_lowest-requires-clause-ready g c = c.requires.ready

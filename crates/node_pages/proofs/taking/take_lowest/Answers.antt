@@ -39,24 +39,6 @@ returns-clause-free g c = first_free c.args.shape.now _ _ c.in_ok-blocks.blocks 
 pub returns-clause-apart : goal.returns-clause-apart
 returns-clause-apart g c = subst Apart (sym c.in_ok-blocks.ensures.value) (first_apart _ (free_blocks c.args.shape.now (g.V.Blocks.seen c.args.v.now).words) c.in_ok-blocks.ensures.room (lists_apart c.args.shape.now (g.V.Blocks.seen c.args.v.now).words))
 
-pub returns-clause-value : goal.returns-clause-value
-returns-clause-value g c = c.in_ok-blocks.ensures.value
-
-pub returns-clause-room : goal.returns-clause-room
-returns-clause-room g c = c.in_ok-blocks.ensures.room
-
-pub returns-clause-passes : goal.returns-clause-passes
-returns-clause-passes g c = c.take.ensures.passes
-
-pub returns-clause-sound : goal.returns-clause-sound
-returns-clause-sound g c = c.take.ensures.sound
-
-pub returns-in_err-blocks-clause-passes : goal.returns-in_err-blocks-clause-passes
-returns-in_err-blocks-clause-passes g c = c.take.ensures.passes
-
-pub returns-in_err-blocks-clause-sound : goal.returns-in_err-blocks-clause-sound
-returns-in_err-blocks-clause-sound g c = c.take.ensures.sound
-
 pub returns-in_err-blocks-clause-apart : goal.returns-in_err-blocks-clause-apart
 returns-in_err-blocks-clause-apart g c = if_err c.from_residual.result _ c.from_residual.ensures.0
 
@@ -71,12 +53,6 @@ returns-in_err-blocks-clause-room g c = if_err c.from_residual.result _ c.from_r
 
 pub returns-in_err-blocks-clause-value : goal.returns-in_err-blocks-clause-value
 returns-in_err-blocks-clause-value g c = if_err c.from_residual.result _ c.from_residual.ensures.0
-
-pub take-requires-clause-sound : goal.take-requires-clause-sound
-take-requires-clause-sound g c = c.requires.sound
-
-pub take-requires-clause-shape : goal.take-requires-clause-shape
-take-requires-clause-shape g c = c.requires.ready.order.has_shape
 
 pub returns-clause-no_space : goal.returns-clause-no_space
 returns-clause-no_space g c = λ is. absurd ((unrefused_ok _).0 is)

@@ -22,9 +22,6 @@ returns-then-not-follows-clause-most c = omega (arith, c.loop-n-test.true, c.min
 pub returns-then-not-follows-clause-within : goal.returns-then-not-follows-clause-within
 returns-then-not-follows-clause-within c = omega (arith, c.loop-n-test.true, c.min-most.ensures)
 
-pub returns-then-not-follows-clause-run : goal.returns-then-not-follows-clause-run
-returns-then-not-follows-clause-run c = c.loop-n.invariant.run
-
 pub returns-clause-some : goal.returns-clause-some
 returns-clause-some c = omega (arith, c.requires.some, c.min-most.ensures)
 

@@ -36,44 +36,11 @@ loop-rest-preserved g c =
 pub offset_bounds-rest-n : goal.offset_bounds-rest-n
 offset_bounds-rest-n g c = omega (arith, c.in_ok-n.ensures.most)
 
-pub returns-clause-count : goal.returns-clause-count
-returns-clause-count g c = c.loop-rest.invariant.count
-
-pub returns-clause-drops : goal.returns-clause-drops
-returns-clause-drops g c = c.loop-rest.invariant.drops
-
-pub returns-clause-firm : goal.returns-clause-firm
-returns-clause-firm g c = c.loop-rest.invariant.firm
-
-pub returns-clause-goes : goal.returns-clause-goes
-returns-clause-goes g c = c.loop-rest.invariant.goes
-
-pub returns-clause-in_update : goal.returns-clause-in_update
-returns-clause-in_update g c = c.loop-rest.invariant.in_update
-
-pub returns-clause-sound : goal.returns-clause-sound
-returns-clause-sound g c = c.loop-rest.invariant.sound
-
-pub returns-clause-standing : goal.returns-clause-standing
-returns-clause-standing g c = c.loop-rest.invariant.standing
-
-pub returns-clause-update : goal.returns-clause-update
-returns-clause-update g c = c.loop-rest.invariant.update
-
-pub returns-in_err-n-clause-in_update : goal.returns-in_err-n-clause-in_update
-returns-in_err-n-clause-in_update g c = c.make_run.ensures.in_update
-
-pub returns-in_err-n-clause-sound : goal.returns-in_err-n-clause-sound
-returns-in_err-n-clause-sound g c = c.make_run.ensures.sound
-
 pub returns-in_err-n-clause-ok : goal.returns-in_err-n-clause-ok
 returns-in_err-n-clause-ok g c = if_err c.from_residual.result _ c.from_residual.ensures.0
 
 pub returns-in_err-n-clause-update : goal.returns-in_err-n-clause-update
 returns-in_err-n-clause-update g c = if_err c.from_residual.result _ c.from_residual.ensures.0
-
-pub make_run-requires-clause-sound : goal.make_run-requires-clause-sound
-make_run-requires-clause-sound g c = c.loop-rest.invariant.sound
 
 pub returns-clause-ends : goal.returns-clause-ends
 returns-clause-ends g c = halts_ok _ _ _ c.loop-rest.invariant.later c.loop-rest.invariant.running

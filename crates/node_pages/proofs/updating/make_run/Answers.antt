@@ -12,60 +12,6 @@ edit_run-requires-clause-touched g c = c.requires.touched _ (edit_in c.args.edit
 pub returns-clause-made : goal.returns-clause-made
 returns-clause-made g c = let n = c.gather_run-n in run_made c.args.edits.now n.new.values n.result _ _ _ n.ensures.within (omega (arith, n.array_long, n.ensures.most)) n.ensures.run c.in_ok-edit_run.ensures.ok
 
-pub edit_run-requires-clause-sound : goal.edit_run-requires-clause-sound
-edit_run-requires-clause-sound g c = c.requires.sound
-
-pub returns-clause-in_update : goal.returns-clause-in_update
-returns-clause-in_update g c = c.edit_run.ensures.in_update
-
-pub returns-in_err-edit_run-clause-in_update : goal.returns-in_err-edit_run-clause-in_update
-returns-in_err-edit_run-clause-in_update g c = c.edit_run.ensures.in_update
-
-pub returns-clause-standing : goal.returns-clause-standing
-returns-clause-standing g c = c.edit_run.ensures.standing
-
-pub returns-in_err-edit_run-clause-standing : goal.returns-in_err-edit_run-clause-standing
-returns-in_err-edit_run-clause-standing g c = c.edit_run.ensures.standing
-
-pub returns-clause-firm : goal.returns-clause-firm
-returns-clause-firm g c = c.edit_run.ensures.firm
-
-pub returns-in_err-edit_run-clause-firm : goal.returns-in_err-edit_run-clause-firm
-returns-in_err-edit_run-clause-firm g c = c.edit_run.ensures.firm
-
-pub returns-clause-count : goal.returns-clause-count
-returns-clause-count g c = c.edit_run.ensures.count
-
-pub returns-in_err-edit_run-clause-count : goal.returns-in_err-edit_run-clause-count
-returns-in_err-edit_run-clause-count g c = c.edit_run.ensures.count
-
-pub returns-clause-drops : goal.returns-clause-drops
-returns-clause-drops g c = c.edit_run.ensures.drops
-
-pub returns-in_err-edit_run-clause-drops : goal.returns-in_err-edit_run-clause-drops
-returns-in_err-edit_run-clause-drops g c = c.edit_run.ensures.drops
-
-pub returns-clause-goes : goal.returns-clause-goes
-returns-clause-goes g c = c.edit_run.ensures.goes
-
-pub returns-in_err-edit_run-clause-goes : goal.returns-in_err-edit_run-clause-goes
-returns-in_err-edit_run-clause-goes g c = c.edit_run.ensures.goes
-
-pub returns-clause-sound : goal.returns-clause-sound
-returns-clause-sound g c = c.edit_run.ensures.sound
-
-pub returns-in_err-edit_run-clause-sound : goal.returns-in_err-edit_run-clause-sound
-returns-in_err-edit_run-clause-sound g c = c.edit_run.ensures.sound
-
-pub returns-clause-some : goal.returns-clause-some
-returns-clause-some g c = c.gather_run-n.ensures.some
-
-pub returns-clause-most : goal.returns-clause-most
-returns-clause-most g c = c.gather_run-n.ensures.most
-
-pub returns-clause-within : goal.returns-clause-within
-returns-clause-within g c = c.gather_run-n.ensures.within
-
 pub returns-in_err-edit_run-clause-some : goal.returns-in_err-edit_run-clause-some
 returns-in_err-edit_run-clause-some g c = if_err c.from_residual.result _ c.from_residual.ensures.0
 
@@ -80,9 +26,6 @@ returns-in_err-edit_run-clause-made g c = if_err c.from_residual.result _ c.from
 
 pub returns-in_err-edit_run-clause-update : goal.returns-in_err-edit_run-clause-update
 returns-in_err-edit_run-clause-update g c = if_err c.from_residual.result _ c.from_residual.ensures.0
-
-pub returns-clause-update : goal.returns-clause-update
-returns-clause-update g c = c.in_ok-edit_run.ensures.update
 
 pub returns-clause-ends : goal.returns-clause-ends
 returns-clause-ends g c = halts_ok _ _ _ c.edit_run.ensures.ends.later c.in_ok-edit_run.ensures.ends.cause

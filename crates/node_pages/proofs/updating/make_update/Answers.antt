@@ -6,74 +6,14 @@ use Rattle.node_pages.specs.Updating.{SetsBits}
 use Rattle.node_pages.proofs.Listed.{as_many}
 use Rattle.node_pages.proofs.updating.make_update.Goals as goal
 
-pub make_words-requires-clause-sound : goal.make_words-requires-clause-sound
-make_words-requires-clause-sound g c = c.requires.sound
-
-pub make_words-requires-clause-shape : goal.make_words-requires-clause-shape
-make_words-requires-clause-shape g c = c.requires.shape
-
-pub make_words-requires-clause-in_update : goal.make_words-requires-clause-in_update
-make_words-requires-clause-in_update g c = c.requires.in_update
-
-pub make_words-requires-clause-ino : goal.make_words-requires-clause-ino
-make_words-requires-clause-ino g c = c.requires.ino
-
-pub make_words-requires-clause-inode : goal.make_words-requires-clause-inode
-make_words-requires-clause-inode g c = c.requires.touched.inode
-
-pub make_words-requires-clause-edited : goal.make_words-requires-clause-edited
-make_words-requires-clause-edited g c = c.requires.touched.edited
-
 pub make_words-requires-clause-can : goal.make_words-requires-clause-can
 make_words-requires-clause-can g c = can_words c.args.shape.now c.args.edits.now _ _ c.requires.can
-
-pub mark_all-requires-clause-sound : goal.mark_all-requires-clause-sound
-mark_all-requires-clause-sound g c = c.make_words.ensures.sound
-
-pub mark_all-requires-2-clause-sound : goal.mark_all-requires-2-clause-sound
-mark_all-requires-2-clause-sound g c = c.mark_all.ensures.sound
-
-pub mark_all-requires-clause-shape : goal.mark_all-requires-clause-shape
-mark_all-requires-clause-shape g c = c.make_words.ensures.shape
-
-pub mark_all-requires-2-clause-shape : goal.mark_all-requires-2-clause-shape
-mark_all-requires-2-clause-shape g c = c.mark_all.ensures.shape
-
-pub mark_all-requires-clause-in_update : goal.mark_all-requires-clause-in_update
-mark_all-requires-clause-in_update g c = c.make_words.ensures.in_update
-
-pub mark_all-requires-2-clause-in_update : goal.mark_all-requires-2-clause-in_update
-mark_all-requires-2-clause-in_update g c = c.mark_all.ensures.in_update
-
-pub mark_all-requires-clause-blocks : goal.mark_all-requires-clause-blocks
-mark_all-requires-clause-blocks g c = c.requires.can.taken
-
-pub mark_all-requires-2-clause-blocks : goal.mark_all-requires-2-clause-blocks
-mark_all-requires-2-clause-blocks g c = c.requires.can.freed
 
 pub mark_all-requires-clause-touched : goal.mark_all-requires-clause-touched
 mark_all-requires-clause-touched g c = ap (λ (f : ℕ → Bool). f 1) c.in_ok-make_words.ensures.update.touched ∙ c.requires.touched.bitmap
 
 pub mark_all-requires-2-clause-touched : goal.mark_all-requires-2-clause-touched
 mark_all-requires-2-clause-touched g c = ap (λ (f : ℕ → Bool). f 1) (c.in_ok-mark_all.ensures.update.touched ∙ c.in_ok-make_words.ensures.update.touched) ∙ c.requires.touched.bitmap
-
-pub returns-in_err-make_words-clause-in_update : goal.returns-in_err-make_words-clause-in_update
-returns-in_err-make_words-clause-in_update g c = c.make_words.ensures.in_update
-
-pub returns-in_err-make_words-clause-sound : goal.returns-in_err-make_words-clause-sound
-returns-in_err-make_words-clause-sound g c = c.make_words.ensures.sound
-
-pub returns-in_err-make_words-clause-shape : goal.returns-in_err-make_words-clause-shape
-returns-in_err-make_words-clause-shape g c = c.make_words.ensures.shape
-
-pub returns-in_err-make_words-clause-standing : goal.returns-in_err-make_words-clause-standing
-returns-in_err-make_words-clause-standing g c = c.make_words.ensures.standing
-
-pub returns-in_err-make_words-clause-goes : goal.returns-in_err-make_words-clause-goes
-returns-in_err-make_words-clause-goes g c = c.make_words.ensures.goes
-
-pub returns-in_err-make_words-clause-firm : goal.returns-in_err-make_words-clause-firm
-returns-in_err-make_words-clause-firm g c = c.make_words.ensures.firm
 
 pub returns-in_err-make_words-clause-ok : goal.returns-in_err-make_words-clause-ok
 returns-in_err-make_words-clause-ok g c = if_err c.from_residual.result _ c.from_residual.ensures.0
@@ -86,15 +26,6 @@ returns-in_err-make_words-clause-ends g c = let p = err_from_is_err_and c.from_r
 
 pub returns-in_err-make_words-clause-caches : goal.returns-in_err-make_words-clause-caches
 returns-in_err-make_words-clause-caches g c = bitmap_dropped _ _ c.make_words.ensures.drops
-
-pub returns-in_err-mark_all-clause-in_update : goal.returns-in_err-mark_all-clause-in_update
-returns-in_err-mark_all-clause-in_update g c = c.mark_all.ensures.in_update
-
-pub returns-in_err-mark_all-clause-sound : goal.returns-in_err-mark_all-clause-sound
-returns-in_err-mark_all-clause-sound g c = c.mark_all.ensures.sound
-
-pub returns-in_err-mark_all-clause-shape : goal.returns-in_err-mark_all-clause-shape
-returns-in_err-mark_all-clause-shape g c = c.mark_all.ensures.shape
 
 pub returns-in_err-mark_all-clause-standing : goal.returns-in_err-mark_all-clause-standing
 returns-in_err-mark_all-clause-standing g c = c.mark_all.ensures.standing ∙ c.make_words.ensures.standing
@@ -116,15 +47,6 @@ returns-in_err-mark_all-clause-ends g c = let p = err_from_is_err_and c.from_res
 
 pub returns-in_err-mark_all-clause-caches : goal.returns-in_err-mark_all-clause-caches
 returns-in_err-mark_all-clause-caches g c = caches_trans _ _ _ _ _ (bitmap_dropped _ _ c.make_words.ensures.drops) c.mark_all.ensures.caches
-
-pub returns-clause-in_update : goal.returns-clause-in_update
-returns-clause-in_update g c = c.mark_all-2.ensures.in_update
-
-pub returns-clause-sound : goal.returns-clause-sound
-returns-clause-sound g c = c.mark_all-2.ensures.sound
-
-pub returns-clause-shape : goal.returns-clause-shape
-returns-clause-shape g c = c.mark_all-2.ensures.shape
 
 pub returns-clause-standing : goal.returns-clause-standing
 returns-clause-standing g c = c.mark_all-2.ensures.standing ∙ c.mark_all.ensures.standing ∙ c.make_words.ensures.standing

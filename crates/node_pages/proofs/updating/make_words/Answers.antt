@@ -30,39 +30,6 @@ returns-clause-goes g c = c.make_edits.ensures.goes then c.edit_inode.ensures.go
 pub returns-clause-firm : goal.returns-clause-firm
 returns-clause-firm g c = firm_trans _ _ _ c.make_edits.ensures.firm c.edit_inode.ensures.firm
 
-pub make_edits-requires-clause-sound : goal.make_edits-requires-clause-sound
-make_edits-requires-clause-sound g c = c.requires.sound
-
-pub make_edits-requires-clause-in_update : goal.make_edits-requires-clause-in_update
-make_edits-requires-clause-in_update g c = c.requires.in_update
-
-pub returns-clause-in_update : goal.returns-clause-in_update
-returns-clause-in_update g c = c.edit_inode.ensures.in_update
-
-pub returns-clause-shape : goal.returns-clause-shape
-returns-clause-shape g c = c.edit_inode.ensures.shape
-
-pub returns-clause-sound : goal.returns-clause-sound
-returns-clause-sound g c = c.edit_inode.ensures.sound
-
-pub returns-in_err-make_edits-clause-in_update : goal.returns-in_err-make_edits-clause-in_update
-returns-in_err-make_edits-clause-in_update g c = c.make_edits.ensures.in_update
-
-pub returns-in_err-make_edits-clause-sound : goal.returns-in_err-make_edits-clause-sound
-returns-in_err-make_edits-clause-sound g c = c.make_edits.ensures.sound
-
-pub returns-in_err-make_edits-clause-standing : goal.returns-in_err-make_edits-clause-standing
-returns-in_err-make_edits-clause-standing g c = c.make_edits.ensures.standing
-
-pub returns-in_err-make_edits-clause-drops : goal.returns-in_err-make_edits-clause-drops
-returns-in_err-make_edits-clause-drops g c = c.make_edits.ensures.drops
-
-pub returns-in_err-make_edits-clause-firm : goal.returns-in_err-make_edits-clause-firm
-returns-in_err-make_edits-clause-firm g c = c.make_edits.ensures.firm
-
-pub returns-in_err-make_edits-clause-goes : goal.returns-in_err-make_edits-clause-goes
-returns-in_err-make_edits-clause-goes g c = c.make_edits.ensures.goes
-
 pub returns-in_err-make_edits-clause-ok : goal.returns-in_err-make_edits-clause-ok
 returns-in_err-make_edits-clause-ok g c = if_err c.from_residual.result _ c.from_residual.ensures.0
 
@@ -71,18 +38,6 @@ returns-in_err-make_edits-clause-update g c = if_err c.from_residual.result _ c.
 
 pub returns-in_err-make_edits-clause-ends : goal.returns-in_err-make_edits-clause-ends
 returns-in_err-make_edits-clause-ends g c = let p = err_from_is_err_and c.from_residual.result c.from_residual.ensures.1 in halts_on _ _ c.make_edits.result c.from_residual.result _ p.0 c.in_err-make_edits.was p.1 c.make_edits.ensures.ends
-
-pub make_edits-requires-clause-words : goal.make_edits-requires-clause-words
-make_edits-requires-clause-words g c = c.requires.can.words
-
-pub edit_inode-requires-clause-ino : goal.edit_inode-requires-clause-ino
-edit_inode-requires-clause-ino g c = c.requires.ino
-
-pub edit_inode-requires-clause-sound : goal.edit_inode-requires-clause-sound
-edit_inode-requires-clause-sound g c = c.make_edits.ensures.sound
-
-pub make_edits-requires-clause-touched : goal.make_edits-requires-clause-touched
-make_edits-requires-clause-touched g c = c.requires.edited
 
 pub edit_inode-requires-clause-touched : goal.edit_inode-requires-clause-touched
 edit_inode-requires-clause-touched g c = ap (λ (f : ℕ → Bool). f (inode_block c.args.i.0)) c.in_ok-make_edits.ensures.update.touched ∙ c.requires.inode

@@ -55,29 +55,8 @@ returns-in_err-set_used-clause-goes g c = goes_trans _ _ _ _ _ _ c.loop-t.invari
 pub returns-clause-ok : goal.returns-clause-ok
 returns-clause-ok g c = subst (λ n. SetsBits c.args.shape.now (g.V.Blocks.seen c.args.v.now).words (g.V.Blocks.seen c.loop-t.v).words (numbers c.args.blocks.now) n (bit_of c.args.used)) (omega (arith, c.loop-t-test.false, c.loop-t.auto.t-end)) c.loop-t.invariant.bits
 
-pub returns-clause-update : goal.returns-clause-update
-returns-clause-update g c = c.loop-t.invariant.update
-
 pub returns-clause-in_update : goal.returns-clause-in_update
 returns-clause-in_update g c = c.loop-t.invariant.update.updating ∙ c.requires.in_update
-
-pub returns-clause-standing : goal.returns-clause-standing
-returns-clause-standing g c = c.loop-t.invariant.standing
-
-pub returns-clause-firm : goal.returns-clause-firm
-returns-clause-firm g c = c.loop-t.invariant.firm
-
-pub returns-clause-shape : goal.returns-clause-shape
-returns-clause-shape g c = c.loop-t.invariant.shape
-
-pub returns-clause-caches : goal.returns-clause-caches
-returns-clause-caches g c = c.loop-t.invariant.caches
-
-pub returns-clause-goes : goal.returns-clause-goes
-returns-clause-goes g c = c.loop-t.invariant.goes
-
-pub returns-clause-sound : goal.returns-clause-sound
-returns-clause-sound g c = c.loop-t.invariant.sound
 
 pub returns-clause-ends : goal.returns-clause-ends
 returns-clause-ends g c = halts_ok _ _ _ c.loop-t.invariant.later c.loop-t.invariant.running
@@ -88,26 +67,11 @@ returns-in_err-set_used-clause-ends g c = let p = err_from_is_err_and c.from_res
 pub returns-in_err-set_used-clause-firm : goal.returns-in_err-set_used-clause-firm
 returns-in_err-set_used-clause-firm g c = firm_trans _ _ _ c.loop-t.invariant.firm c.set_used.ensures.marks.firm
 
-pub returns-in_err-set_used-clause-in_update : goal.returns-in_err-set_used-clause-in_update
-returns-in_err-set_used-clause-in_update g c = c.set_used.ensures.marks.in_update
-
 pub returns-in_err-set_used-clause-ok : goal.returns-in_err-set_used-clause-ok
 returns-in_err-set_used-clause-ok g c = if_err c.from_residual.result _ c.from_residual.ensures.0
 
 pub returns-in_err-set_used-clause-update : goal.returns-in_err-set_used-clause-update
 returns-in_err-set_used-clause-update g c = if_err c.from_residual.result _ c.from_residual.ensures.0
 
-pub returns-in_err-set_used-clause-shape : goal.returns-in_err-set_used-clause-shape
-returns-in_err-set_used-clause-shape g c = c.set_used.ensures.shape
-
-pub returns-in_err-set_used-clause-sound : goal.returns-in_err-set_used-clause-sound
-returns-in_err-set_used-clause-sound g c = c.set_used.ensures.sound
-
 pub returns-in_err-set_used-clause-standing : goal.returns-in_err-set_used-clause-standing
 returns-in_err-set_used-clause-standing g c = c.set_used.ensures.marks.standing ∙ c.loop-t.invariant.standing
-
-pub set_used-requires-clause-shape : goal.set_used-requires-clause-shape
-set_used-requires-clause-shape g c = c.loop-t.invariant.shape
-
-pub set_used-requires-clause-sound : goal.set_used-requires-clause-sound
-set_used-requires-clause-sound g c = c.loop-t.invariant.sound

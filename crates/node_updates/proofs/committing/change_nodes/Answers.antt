@@ -10,24 +10,6 @@ use Rattle.node_updates.proofs.committing.change_nodes.Goals as goal
 pub make_changes-requires-clause-can : goal.make_changes-requires-clause-can
 make_changes-requires-clause-can g c = makes_fit _ (g.V.Blocks.seen c.args.v.now) _ c.requires.can
 
-pub returns-in_err-open_changes-clause-shape : goal.returns-in_err-open_changes-clause-shape
-returns-in_err-open_changes-clause-shape g c = c.open_changes.ensures.shape
-
-pub returns-in_err-open_changes-clause-firm : goal.returns-in_err-open_changes-clause-firm
-returns-in_err-open_changes-clause-firm g c = c.open_changes.ensures.firm
-
-pub returns-in_err-open_changes-clause-caches : goal.returns-in_err-open_changes-clause-caches
-returns-in_err-open_changes-clause-caches g c = c.open_changes.ensures.caches
-
-pub returns-in_err-open_changes-clause-goes : goal.returns-in_err-open_changes-clause-goes
-returns-in_err-open_changes-clause-goes g c = c.open_changes.ensures.goes
-
-pub returns-in_err-open_changes-clause-sound : goal.returns-in_err-open_changes-clause-sound
-returns-in_err-open_changes-clause-sound g c = c.open_changes.ensures.sound
-
-pub returns-in_err-make_changes-clause-shape : goal.returns-in_err-make_changes-clause-shape
-returns-in_err-make_changes-clause-shape g c = c.make_changes.ensures.shape
-
 pub returns-in_err-make_changes-clause-firm : goal.returns-in_err-make_changes-clause-firm
 returns-in_err-make_changes-clause-firm g c = firm_trans _ _ _ c.open_changes.ensures.firm c.make_changes.ensures.firm
 
@@ -36,9 +18,6 @@ returns-in_err-make_changes-clause-goes g c = c.open_changes.ensures.goes then c
 
 pub returns-in_err-make_changes-clause-ends : goal.returns-in_err-make_changes-clause-ends
 returns-in_err-make_changes-clause-ends g c = let p = err_from_is_err_and c.from_residual-in_err-make_changes.result c.from_residual-in_err-make_changes.ensures.1 in ends_later _ _ _ _ c.open_changes.ensures.ends.later c.in_ok-open_changes.ensures.ends.cause (ends_halted _ _ c.make_changes.result c.from_residual-in_err-make_changes.result _ p.0 c.in_err-make_changes.was p.1 p.2 c.make_changes.ensures.ends)
-
-pub returns-in_err-make_changes-clause-sound : goal.returns-in_err-make_changes-clause-sound
-returns-in_err-make_changes-clause-sound g c = c.make_changes.ensures.sound
 
 pub returns-in_err-commit-clause-shape : goal.returns-in_err-commit-clause-shape
 returns-in_err-commit-clause-shape g c = shape_dropped _ _ _ c.make_changes.ensures.shape c.commit.ensures.looks.count c.commit.ensures.drops
@@ -52,9 +31,6 @@ returns-in_err-commit-clause-goes g c = c.open_changes.ensures.goes then c.make_
 pub returns-in_err-commit-clause-ends : goal.returns-in_err-commit-clause-ends
 returns-in_err-commit-clause-ends g c = let p = err_from_is_err_and c.from_residual-in_err-commit.result c.from_residual-in_err-commit.ensures.1 in ends_later _ _ _ _ c.open_changes.ensures.ends.later c.in_ok-open_changes.ensures.ends.cause (ends_later _ _ _ _ c.make_changes.ensures.ends.later c.in_ok-make_changes.ensures.ends.cause (ends_halted _ _ c.commit.result c.from_residual-in_err-commit.result _ p.0 c.in_err-commit.was p.1 p.2 c.commit.ensures.ends))
 
-pub returns-in_err-commit-clause-sound : goal.returns-in_err-commit-clause-sound
-returns-in_err-commit-clause-sound g c = c.commit.ensures.sound
-
 pub returns-clause-fault : goal.returns-clause-fault
 returns-clause-fault g c = λ is. absurd cc
 
@@ -66,39 +42,6 @@ returns-clause-firm g c = firm_trans _ _ _ (firm_trans _ _ _ c.open_changes.ensu
 
 pub returns-clause-goes : goal.returns-clause-goes
 returns-clause-goes g c = c.open_changes.ensures.goes then c.make_changes.ensures.goes then c.commit.ensures.goes
-
-pub returns-clause-sound : goal.returns-clause-sound
-returns-clause-sound g c = c.commit.ensures.sound
-
-pub open_changes-requires-clause-sound : goal.open_changes-requires-clause-sound
-open_changes-requires-clause-sound g c = c.requires.sound
-
-pub open_changes-requires-clause-shape : goal.open_changes-requires-clause-shape
-open_changes-requires-clause-shape g c = c.requires.shape
-
-pub open_changes-requires-clause-idle : goal.open_changes-requires-clause-idle
-open_changes-requires-clause-idle g c = c.requires.idle
-
-pub open_changes-requires-clause-can : goal.open_changes-requires-clause-can
-open_changes-requires-clause-can g c = c.requires.can
-
-pub make_changes-requires-clause-sound : goal.make_changes-requires-clause-sound
-make_changes-requires-clause-sound g c = c.open_changes.ensures.sound
-
-pub make_changes-requires-clause-shape : goal.make_changes-requires-clause-shape
-make_changes-requires-clause-shape g c = c.open_changes.ensures.shape
-
-pub commit-requires-clause-sound : goal.commit-requires-clause-sound
-commit-requires-clause-sound g c = c.make_changes.ensures.sound
-
-pub commit-requires-clause-in_update : goal.commit-requires-clause-in_update
-commit-requires-clause-in_update g c = c.make_changes.ensures.in_update
-
-pub make_changes-requires-clause-in_update : goal.make_changes-requires-clause-in_update
-make_changes-requires-clause-in_update g c = c.in_ok-open_changes.ensures.ok.1
-
-pub make_changes-requires-clause-touched : goal.make_changes-requires-clause-touched
-make_changes-requires-clause-touched g c = c.in_ok-open_changes.ensures.ok.0
 
 pub returns-in_err-open_changes-clause-stopped : goal.returns-in_err-open_changes-clause-stopped
 returns-in_err-open_changes-clause-stopped g c = inl c.open_changes.ensures.standing

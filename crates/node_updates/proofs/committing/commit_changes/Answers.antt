@@ -37,12 +37,6 @@ returns-clause-touched g c = touched_then _ _ _ _ _ c.change_nodes.ensures.shape
 pub returns-in_err-change_nodes-clause-forgotten : goal.returns-in_err-change_nodes-clause-forgotten
 returns-in_err-change_nodes-clause-forgotten g c = let p = err_from_is_err_and c.from_residual.result c.from_residual.ensures.1 in never_ok _ _ p.0 p.1
 
-pub returns-in_err-change_nodes-clause-goes : goal.returns-in_err-change_nodes-clause-goes
-returns-in_err-change_nodes-clause-goes g c = c.change_nodes.ensures.goes
-
-pub returns-in_err-change_nodes-clause-sound : goal.returns-in_err-change_nodes-clause-sound
-returns-in_err-change_nodes-clause-sound g c = c.change_nodes.ensures.sound
-
 pub returns-in_err-change_nodes-clause-ends : goal.returns-in_err-change_nodes-clause-ends
 returns-in_err-change_nodes-clause-ends g c = let p = err_from_is_err_and c.from_residual.result c.from_residual.ensures.1 in ends_err _ _ c.change_nodes.result c.from_residual.result _ p.0 c.in_err-change_nodes.was p.1 p.2 c.change_nodes.ensures.ends
 
@@ -52,38 +46,11 @@ returns-in_err-forget_freed-clause-forgotten g c = let p = err_from_is_err_and c
 pub returns-in_err-forget_freed-clause-goes : goal.returns-in_err-forget_freed-clause-goes
 returns-in_err-forget_freed-clause-goes g c = c.change_nodes.ensures.goes then c.forget_freed.ensures.goes
 
-pub returns-in_err-forget_freed-clause-sound : goal.returns-in_err-forget_freed-clause-sound
-returns-in_err-forget_freed-clause-sound g c = c.forget_freed.ensures.sound
-
 pub returns-in_err-forget_freed-clause-ends : goal.returns-in_err-forget_freed-clause-ends
 returns-in_err-forget_freed-clause-ends g c = let p = err_from_is_err_and c.from_residual-in_err-forget_freed.result c.from_residual-in_err-forget_freed.ensures.1 in ends_later _ _ _ _ c.change_nodes.ensures.ends.later c.in_ok-change_nodes.ensures.ends.cause (ends_halted _ _ c.forget_freed.result c.from_residual-in_err-forget_freed.result _ p.0 c.in_err-forget_freed.was p.1 p.2 c.forget_freed.ensures.ends)
-
-pub returns-clause-forgotten : goal.returns-clause-forgotten
-returns-clause-forgotten g c = c.in_ok-forget_freed.ensures.forgotten
 
 pub returns-clause-goes : goal.returns-clause-goes
 returns-clause-goes g c = c.change_nodes.ensures.goes then c.forget_freed.ensures.goes
 
-pub returns-clause-sound : goal.returns-clause-sound
-returns-clause-sound g c = c.forget_freed.ensures.sound
-
 pub returns-clause-ends : goal.returns-clause-ends
 returns-clause-ends g c = ends_later _ _ _ _ c.change_nodes.ensures.ends.later c.in_ok-change_nodes.ensures.ends.cause (ends_unhalted _ _ _ _ c.in_ok-forget_freed.ensures.ends)
-
-pub change_nodes-requires-clause-sound : goal.change_nodes-requires-clause-sound
-change_nodes-requires-clause-sound g c = c.requires.sound
-
-pub change_nodes-requires-clause-shape : goal.change_nodes-requires-clause-shape
-change_nodes-requires-clause-shape g c = c.requires.shape
-
-pub change_nodes-requires-clause-idle : goal.change_nodes-requires-clause-idle
-change_nodes-requires-clause-idle g c = c.requires.idle
-
-pub change_nodes-requires-clause-can : goal.change_nodes-requires-clause-can
-change_nodes-requires-clause-can g c = c.requires.can
-
-pub forget_freed-requires-clause-sound : goal.forget_freed-requires-clause-sound
-forget_freed-requires-clause-sound g c = c.change_nodes.ensures.sound
-
-pub forget_freed-requires-clause-idle : goal.forget_freed-requires-clause-idle
-forget_freed-requires-clause-idle g c = c.in_ok-change_nodes.ensures.ok.2

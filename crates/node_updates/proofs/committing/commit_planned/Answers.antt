@@ -5,15 +5,6 @@ use Rattle.request_ends.proofs.CallEnds.{ends_ok, ends_vol, well_vol}
 use Rattle.node_updates.proofs.Planning.{ends_told, told_err}
 use Rattle.node_updates.proofs.committing.commit_planned.Goals as goal
 
-pub commit_changes-requires-clause-shape : goal.commit_changes-requires-clause-shape
-commit_changes-requires-clause-shape g c = c.requires.planned.1.has_shape
-
-pub commit_changes-requires-clause-idle : goal.commit_changes-requires-clause-idle
-commit_changes-requires-clause-idle g c = c.requires.planned.1.idle
-
-pub commit_changes-requires-clause-can : goal.commit_changes-requires-clause-can
-commit_changes-requires-clause-can g c = c.requires.planned.1.can
-
 pub returns-in_err-commit_changes-clause-leaves : goal.returns-in_err-commit_changes-clause-leaves
 returns-in_err-commit_changes-clause-leaves g c =
     let failed = err_from_is_err_and c.from_residual.result c.from_residual.ensures.1 in

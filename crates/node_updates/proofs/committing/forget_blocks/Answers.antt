@@ -52,47 +52,11 @@ returns-in_err-forget-clause-forgotten g c = let p = err_from_is_err_and c.from_
 pub returns-in_err-forget-clause-count : goal.returns-in_err-forget-clause-count
 returns-in_err-forget-clause-count g c = c.forget.ensures.count ∙ c.loop-t.invariant.count
 
-pub returns-in_err-forget-clause-idle : goal.returns-in_err-forget-clause-idle
-returns-in_err-forget-clause-idle g c = c.forget.ensures.idle
-
 pub returns-in_err-forget-clause-goes : goal.returns-in_err-forget-clause-goes
 returns-in_err-forget-clause-goes g c = goes_trans _ _ _ _ _ _ c.loop-t.invariant.goes c.forget.ensures.goes
 
-pub returns-in_err-forget-clause-sound : goal.returns-in_err-forget-clause-sound
-returns-in_err-forget-clause-sound g c = c.forget.ensures.sound
-
-pub returns-clause-words : goal.returns-clause-words
-returns-clause-words g c = c.loop-t.invariant.words
-
-pub returns-clause-standing : goal.returns-clause-standing
-returns-clause-standing g c = c.loop-t.invariant.standing
-
-pub returns-clause-firm : goal.returns-clause-firm
-returns-clause-firm g c = c.loop-t.invariant.firm
-
-pub returns-clause-count : goal.returns-clause-count
-returns-clause-count g c = c.loop-t.invariant.count
-
-pub returns-clause-drops : goal.returns-clause-drops
-returns-clause-drops g c = c.loop-t.invariant.drops
-
-pub returns-clause-idle : goal.returns-clause-idle
-returns-clause-idle g c = c.loop-t.invariant.idle
-
-pub returns-clause-goes : goal.returns-clause-goes
-returns-clause-goes g c = c.loop-t.invariant.goes
-
-pub returns-clause-sound : goal.returns-clause-sound
-returns-clause-sound g c = c.loop-t.invariant.sound
-
 pub returns-clause-ends : goal.returns-clause-ends
 returns-clause-ends g c = record { later = c.loop-t.invariant.later; stays = λ on. c.loop-t.invariant.running ∙ on; cause = c.loop-t.invariant.running }
-
-pub forget-requires-clause-sound : goal.forget-requires-clause-sound
-forget-requires-clause-sound g c = c.loop-t.invariant.sound
-
-pub forget-requires-clause-idle : goal.forget-requires-clause-idle
-forget-requires-clause-idle g c = c.loop-t.invariant.idle
 
 pub loop-t-init : goal.loop-t-init
 loop-t-init g c = record {

@@ -64,44 +64,8 @@ returns-in_err-forget_blocks-clause-drops g c = drops_trans _ _ _ c.loop-change.
 pub returns-in_err-forget_blocks-clause-count : goal.returns-in_err-forget_blocks-clause-count
 returns-in_err-forget_blocks-clause-count g c = c.forget_blocks.ensures.count ∙ c.loop-change.invariant.count
 
-pub returns-in_err-forget_blocks-clause-idle : goal.returns-in_err-forget_blocks-clause-idle
-returns-in_err-forget_blocks-clause-idle g c = c.forget_blocks.ensures.idle
-
 pub returns-in_err-forget_blocks-clause-goes : goal.returns-in_err-forget_blocks-clause-goes
 returns-in_err-forget_blocks-clause-goes g c = goes_trans _ _ _ _ _ _ c.loop-change.invariant.goes c.forget_blocks.ensures.goes
 
-pub returns-in_err-forget_blocks-clause-sound : goal.returns-in_err-forget_blocks-clause-sound
-returns-in_err-forget_blocks-clause-sound g c = c.forget_blocks.ensures.sound
-
-pub returns-clause-words : goal.returns-clause-words
-returns-clause-words g c = c.loop-change.invariant.words
-
-pub returns-clause-standing : goal.returns-clause-standing
-returns-clause-standing g c = c.loop-change.invariant.standing
-
-pub returns-clause-firm : goal.returns-clause-firm
-returns-clause-firm g c = c.loop-change.invariant.firm
-
-pub returns-clause-count : goal.returns-clause-count
-returns-clause-count g c = c.loop-change.invariant.count
-
-pub returns-clause-drops : goal.returns-clause-drops
-returns-clause-drops g c = c.loop-change.invariant.drops
-
-pub returns-clause-idle : goal.returns-clause-idle
-returns-clause-idle g c = c.loop-change.invariant.idle
-
-pub returns-clause-goes : goal.returns-clause-goes
-returns-clause-goes g c = c.loop-change.invariant.goes
-
-pub returns-clause-sound : goal.returns-clause-sound
-returns-clause-sound g c = c.loop-change.invariant.sound
-
 pub returns-clause-ends : goal.returns-clause-ends
 returns-clause-ends g c = record { later = c.loop-change.invariant.later; stays = λ on. c.loop-change.invariant.running ∙ on; cause = c.loop-change.invariant.running }
-
-pub forget_blocks-requires-clause-sound : goal.forget_blocks-requires-clause-sound
-forget_blocks-requires-clause-sound g c = c.loop-change.invariant.sound
-
-pub forget_blocks-requires-clause-idle : goal.forget_blocks-requires-clause-idle
-forget_blocks-requires-clause-idle g c = c.loop-change.invariant.idle

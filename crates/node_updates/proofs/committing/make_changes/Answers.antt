@@ -48,17 +48,11 @@ returns-in_err-make_change-clause-ok g c = let p = err_from_is_err_and c.from_re
 pub returns-in_err-make_change-clause-update : goal.returns-in_err-make_change-clause-update
 returns-in_err-make_change-clause-update g c = let p = err_from_is_err_and c.from_residual.result c.from_residual.ensures.1 in never_ok _ _ p.0 p.1
 
-pub returns-in_err-make_change-clause-in_update : goal.returns-in_err-make_change-clause-in_update
-returns-in_err-make_change-clause-in_update g c = c.make_change.ensures.in_update
-
 pub returns-in_err-make_change-clause-standing : goal.returns-in_err-make_change-clause-standing
 returns-in_err-make_change-clause-standing g c = c.make_change.ensures.standing ∙ c.loop-change.invariant.standing
 
 pub returns-in_err-make_change-clause-firm : goal.returns-in_err-make_change-clause-firm
 returns-in_err-make_change-clause-firm g c = firm_trans _ _ _ c.loop-change.invariant.firm c.make_change.ensures.firm
-
-pub returns-in_err-make_change-clause-shape : goal.returns-in_err-make_change-clause-shape
-returns-in_err-make_change-clause-shape g c = c.make_change.ensures.shape
 
 pub returns-in_err-make_change-clause-goes : goal.returns-in_err-make_change-clause-goes
 returns-in_err-make_change-clause-goes g c = goes_trans _ _ _ _ _ _ c.loop-change.invariant.goes c.make_change.ensures.goes
@@ -66,41 +60,5 @@ returns-in_err-make_change-clause-goes g c = goes_trans _ _ _ _ _ _ c.loop-chang
 pub returns-in_err-make_change-clause-ends : goal.returns-in_err-make_change-clause-ends
 returns-in_err-make_change-clause-ends g c = let p = err_from_is_err_and c.from_residual.result c.from_residual.ensures.1 in halts_later _ _ _ c.make_change.result c.from_residual.result _ p.0 c.loop-change.invariant.later c.loop-change.invariant.running c.in_err-make_change.was p.1 c.make_change.ensures.ends
 
-pub returns-in_err-make_change-clause-sound : goal.returns-in_err-make_change-clause-sound
-returns-in_err-make_change-clause-sound g c = c.make_change.ensures.sound
-
-pub returns-clause-update : goal.returns-clause-update
-returns-clause-update g c = c.loop-change.invariant.update
-
-pub returns-clause-in_update : goal.returns-clause-in_update
-returns-clause-in_update g c = c.loop-change.invariant.in_update
-
-pub returns-clause-standing : goal.returns-clause-standing
-returns-clause-standing g c = c.loop-change.invariant.standing
-
-pub returns-clause-firm : goal.returns-clause-firm
-returns-clause-firm g c = c.loop-change.invariant.firm
-
-pub returns-clause-shape : goal.returns-clause-shape
-returns-clause-shape g c = c.loop-change.invariant.shape
-
-pub returns-clause-caches : goal.returns-clause-caches
-returns-clause-caches g c = c.loop-change.invariant.caches
-
-pub returns-clause-goes : goal.returns-clause-goes
-returns-clause-goes g c = c.loop-change.invariant.goes
-
-pub returns-clause-sound : goal.returns-clause-sound
-returns-clause-sound g c = c.loop-change.invariant.sound
-
 pub returns-clause-ends : goal.returns-clause-ends
 returns-clause-ends g c = record { later = c.loop-change.invariant.later; stays = λ on. c.loop-change.invariant.running ∙ on; cause = c.loop-change.invariant.running }
-
-pub make_change-requires-clause-sound : goal.make_change-requires-clause-sound
-make_change-requires-clause-sound g c = c.loop-change.invariant.sound
-
-pub make_change-requires-clause-shape : goal.make_change-requires-clause-shape
-make_change-requires-clause-shape g c = c.loop-change.invariant.shape
-
-pub make_change-requires-clause-in_update : goal.make_change-requires-clause-in_update
-make_change-requires-clause-in_update g c = c.loop-change.invariant.in_update

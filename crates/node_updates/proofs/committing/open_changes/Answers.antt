@@ -12,23 +12,11 @@ touch_changes-requires-clause-shape g c = shape_dropped _ _ _ c.requires.shape c
 pub touch_changes-requires-clause-can : goal.touch_changes-requires-clause-can
 touch_changes-requires-clause-can g c = can_on_drops _ _ _ _ c.begin.ensures.drops c.requires.can
 
-pub returns-in_err-begin-clause-standing : goal.returns-in_err-begin-clause-standing
-returns-in_err-begin-clause-standing g c = c.begin.ensures.standing
-
-pub returns-in_err-begin-clause-firm : goal.returns-in_err-begin-clause-firm
-returns-in_err-begin-clause-firm g c = c.begin.ensures.firm
-
 pub returns-in_err-begin-clause-shape : goal.returns-in_err-begin-clause-shape
 returns-in_err-begin-clause-shape g c = shape_dropped _ _ _ c.requires.shape c.begin.ensures.looks.count c.begin.ensures.drops
 
-pub returns-in_err-begin-clause-goes : goal.returns-in_err-begin-clause-goes
-returns-in_err-begin-clause-goes g c = c.begin.ensures.goes
-
 pub returns-in_err-begin-clause-ends : goal.returns-in_err-begin-clause-ends
 returns-in_err-begin-clause-ends g c = let p = err_from_is_err_and c.from_residual.result c.from_residual.ensures.1 in ends_halted _ _ c.begin.result c.from_residual.result _ p.0 c.in_err-begin.was p.1 p.2 c.begin.ensures.ends
-
-pub returns-in_err-begin-clause-sound : goal.returns-in_err-begin-clause-sound
-returns-in_err-begin-clause-sound g c = c.begin.ensures.sound
 
 pub returns-in-Ok-clause-ok : goal.returns-in-Ok-clause-ok
 returns-in-Ok-clause-ok g c = (c.in-Ok.ensures.ok, c.touch_changes.ensures.in_update, c.touch_changes.ensures.looks.words ∙ c.begin.ensures.looks.words)
@@ -42,17 +30,8 @@ returns-in-Ok-clause-standing g c = c.touch_changes.ensures.standing ∙ c.begin
 pub returns-in-Ok-clause-firm : goal.returns-in-Ok-clause-firm
 returns-in-Ok-clause-firm g c = firm_trans _ _ _ c.begin.ensures.firm c.touch_changes.ensures.firm
 
-pub returns-in-Ok-clause-shape : goal.returns-in-Ok-clause-shape
-returns-in-Ok-clause-shape g c = c.touch_changes.ensures.shape
-
 pub returns-in-Ok-clause-goes : goal.returns-in-Ok-clause-goes
 returns-in-Ok-clause-goes g c = c.begin.ensures.goes then c.touch_changes.ensures.goes
-
-pub returns-in-Ok-clause-sound : goal.returns-in-Ok-clause-sound
-returns-in-Ok-clause-sound g c = c.touch_changes.ensures.sound
-
-pub returns-in-Err-Stopped-clause-ok : goal.returns-in-Err-Stopped-clause-ok
-returns-in-Err-Stopped-clause-ok g c = tt
 
 pub returns-in-Err-Stopped-clause-fault : goal.returns-in-Err-Stopped-clause-fault
 returns-in-Err-Stopped-clause-fault g c = λ is. absurd cc
@@ -63,29 +42,8 @@ returns-in-Err-Stopped-clause-standing g c = c.touch_changes.ensures.standing �
 pub returns-in-Err-Stopped-clause-firm : goal.returns-in-Err-Stopped-clause-firm
 returns-in-Err-Stopped-clause-firm g c = firm_trans _ _ _ c.begin.ensures.firm c.touch_changes.ensures.firm
 
-pub returns-in-Err-Stopped-clause-shape : goal.returns-in-Err-Stopped-clause-shape
-returns-in-Err-Stopped-clause-shape g c = c.touch_changes.ensures.shape
-
 pub returns-in-Err-Stopped-clause-goes : goal.returns-in-Err-Stopped-clause-goes
 returns-in-Err-Stopped-clause-goes g c = c.begin.ensures.goes then c.touch_changes.ensures.goes
-
-pub returns-in-Err-Stopped-clause-sound : goal.returns-in-Err-Stopped-clause-sound
-returns-in-Err-Stopped-clause-sound g c = c.touch_changes.ensures.sound
-
-pub touch_changes-requires-clause-sound : goal.touch_changes-requires-clause-sound
-touch_changes-requires-clause-sound g c = c.begin.ensures.sound
-
-pub rollback-requires-clause-sound : goal.rollback-requires-clause-sound
-rollback-requires-clause-sound g c = c.touch_changes.ensures.sound
-
-pub rollback-requires-clause-in_update : goal.rollback-requires-clause-in_update
-rollback-requires-clause-in_update g c = c.touch_changes.ensures.in_update
-
-pub touch_changes-requires-clause-in_update : goal.touch_changes-requires-clause-in_update
-touch_changes-requires-clause-in_update g c = c.in_ok-begin.ensures.ok.updating
-
-pub touch_changes-requires-clause-room : goal.touch_changes-requires-clause-room
-touch_changes-requires-clause-room g c = c.in_ok-begin.ensures.ok.touches
 
 pub returns-in_err-begin-clause-caches : goal.returns-in_err-begin-clause-caches
 returns-in_err-begin-clause-caches g c = caches_by_drops _ _ _ c.begin.ensures.drops

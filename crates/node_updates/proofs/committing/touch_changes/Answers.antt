@@ -74,9 +74,6 @@ returns-in_err-touch_node-clause-standing g c = c.touch_node.ensures.standing �
 pub returns-in_err-touch_node-clause-firm : goal.returns-in_err-touch_node-clause-firm
 returns-in_err-touch_node-clause-firm g c = firm_trans _ _ _ c.loop-change.invariant.firm c.touch_node.ensures.firm
 
-pub returns-in_err-touch_node-clause-in_update : goal.returns-in_err-touch_node-clause-in_update
-returns-in_err-touch_node-clause-in_update g c = c.touch_node.ensures.in_update
-
 pub returns-in_err-touch_node-clause-goes : goal.returns-in_err-touch_node-clause-goes
 returns-in_err-touch_node-clause-goes g c = goes_trans _ _ _ _ _ _ c.loop-change.invariant.goes c.touch_node.ensures.goes
 
@@ -86,62 +83,14 @@ returns-in_err-touch_node-clause-shape g c = shape_on _ _ _ _ c.requires.shape (
 pub returns-in_err-touch_node-clause-ends : goal.returns-in_err-touch_node-clause-ends
 returns-in_err-touch_node-clause-ends g c = let p = err_from_is_err_and c.from_residual-in_err-touch_node.result c.from_residual-in_err-touch_node.ensures.1 in ends_later _ _ _ _ c.loop-change.invariant.later c.loop-change.invariant.running (ends_err _ _ c.touch_node.result c.from_residual-in_err-touch_node.result _ p.0 c.in_err-touch_node.was p.1 p.2 c.touch_node.ensures.ends)
 
-pub returns-in_err-touch_node-clause-sound : goal.returns-in_err-touch_node-clause-sound
-returns-in_err-touch_node-clause-sound g c = c.touch_node.ensures.sound
-
-pub returns-clause-looks : goal.returns-clause-looks
-returns-clause-looks g c = c.loop-change.invariant.looks
-
-pub returns-clause-standing : goal.returns-clause-standing
-returns-clause-standing g c = c.loop-change.invariant.standing
-
-pub returns-clause-firm : goal.returns-clause-firm
-returns-clause-firm g c = c.loop-change.invariant.firm
-
-pub returns-clause-caches : goal.returns-clause-caches
-returns-clause-caches g c = c.loop-change.invariant.caches
-
-pub returns-clause-in_update : goal.returns-clause-in_update
-returns-clause-in_update g c = c.loop-change.invariant.in_update
-
-pub returns-clause-goes : goal.returns-clause-goes
-returns-clause-goes g c = c.loop-change.invariant.goes
-
-pub returns-clause-sound : goal.returns-clause-sound
-returns-clause-sound g c = c.loop-change.invariant.sound
-
 pub returns-clause-shape : goal.returns-clause-shape
 returns-clause-shape g c = shape_on _ _ _ _ c.requires.shape c.loop-change.invariant.looks.count c.loop-change.invariant.caches
 
 pub returns-clause-ends : goal.returns-clause-ends
 returns-clause-ends g c = record { later = c.loop-change.invariant.later; stays = λ on. c.loop-change.invariant.running ∙ on; cause = c.loop-change.invariant.running }
 
-pub touch_node-requires-clause-sound : goal.touch_node-requires-clause-sound
-touch_node-requires-clause-sound g c = c.loop-change.invariant.sound
-
-pub touch_node-requires-clause-in_update : goal.touch_node-requires-clause-in_update
-touch_node-requires-clause-in_update g c = c.loop-change.invariant.in_update
-
 pub returns-in_err-touch_bitmap-clause-ok : goal.returns-in_err-touch_bitmap-clause-ok
 returns-in_err-touch_bitmap-clause-ok g c = let p = err_from_is_err_and c.from_residual.result c.from_residual.ensures.1 in never_ok _ _ p.0 p.1
-
-pub returns-in_err-touch_bitmap-clause-looks : goal.returns-in_err-touch_bitmap-clause-looks
-returns-in_err-touch_bitmap-clause-looks g c = c.touch_bitmap.ensures.looks
-
-pub returns-in_err-touch_bitmap-clause-standing : goal.returns-in_err-touch_bitmap-clause-standing
-returns-in_err-touch_bitmap-clause-standing g c = c.touch_bitmap.ensures.standing
-
-pub returns-in_err-touch_bitmap-clause-firm : goal.returns-in_err-touch_bitmap-clause-firm
-returns-in_err-touch_bitmap-clause-firm g c = c.touch_bitmap.ensures.firm
-
-pub returns-in_err-touch_bitmap-clause-in_update : goal.returns-in_err-touch_bitmap-clause-in_update
-returns-in_err-touch_bitmap-clause-in_update g c = c.touch_bitmap.ensures.in_update
-
-pub returns-in_err-touch_bitmap-clause-goes : goal.returns-in_err-touch_bitmap-clause-goes
-returns-in_err-touch_bitmap-clause-goes g c = c.touch_bitmap.ensures.goes
-
-pub returns-in_err-touch_bitmap-clause-sound : goal.returns-in_err-touch_bitmap-clause-sound
-returns-in_err-touch_bitmap-clause-sound g c = c.touch_bitmap.ensures.sound
 
 pub returns-in_err-touch_bitmap-clause-caches : goal.returns-in_err-touch_bitmap-clause-caches
 returns-in_err-touch_bitmap-clause-caches g c = caches_bitmap _ _ _ c.touch_bitmap.ensures.caches
@@ -151,15 +100,3 @@ returns-in_err-touch_bitmap-clause-shape g c = shape_on _ _ _ _ c.requires.shape
 
 pub returns-in_err-touch_bitmap-clause-ends : goal.returns-in_err-touch_bitmap-clause-ends
 returns-in_err-touch_bitmap-clause-ends g c = let p = err_from_is_err_and c.from_residual.result c.from_residual.ensures.1 in ends_err _ _ c.touch_bitmap.result c.from_residual.result _ p.0 c.in_err-touch_bitmap.was p.1 p.2 c.touch_bitmap.ensures.ends
-
-pub touch_bitmap-requires-clause-sound : goal.touch_bitmap-requires-clause-sound
-touch_bitmap-requires-clause-sound g c = c.requires.sound
-
-pub touch_bitmap-requires-clause-shape : goal.touch_bitmap-requires-clause-shape
-touch_bitmap-requires-clause-shape g c = c.requires.shape
-
-pub touch_bitmap-requires-clause-in_update : goal.touch_bitmap-requires-clause-in_update
-touch_bitmap-requires-clause-in_update g c = c.requires.in_update
-
-pub touch_bitmap-requires-clause-room : goal.touch_bitmap-requires-clause-room
-touch_bitmap-requires-clause-room g c = c.requires.room

@@ -81,47 +81,11 @@ returns-in_err-touch-clause-firm g c = firm_trans _ _ _ c.loop-t.invariant.firm 
 pub returns-in_err-touch-clause-caches : goal.returns-in_err-touch-clause-caches
 returns-in_err-touch-clause-caches g c = caches_by_trans _ _ _ _ c.loop-t.invariant.caches (caches_edit c.args.edits.now c.loop-t.t _ _ _ c.loop-t-test.true c.touch.ensures.caches)
 
-pub returns-in_err-touch-clause-in_update : goal.returns-in_err-touch-clause-in_update
-returns-in_err-touch-clause-in_update g c = c.touch.ensures.in_update
-
 pub returns-in_err-touch-clause-goes : goal.returns-in_err-touch-clause-goes
 returns-in_err-touch-clause-goes g c = goes_trans _ _ _ _ _ _ c.loop-t.invariant.goes c.touch.ensures.goes
 
 pub returns-in_err-touch-clause-ends : goal.returns-in_err-touch-clause-ends
 returns-in_err-touch-clause-ends g c = let p = err_from_is_err_and c.from_residual.result c.from_residual.ensures.1 in ends_later _ _ _ _ c.loop-t.invariant.later c.loop-t.invariant.running (ends_err _ _ c.touch.result c.from_residual.result _ p.0 c.in_err-touch.was p.1 p.2 c.touch.ensures.ends)
 
-pub returns-in_err-touch-clause-sound : goal.returns-in_err-touch-clause-sound
-returns-in_err-touch-clause-sound g c = c.touch.ensures.sound
-
-pub returns-clause-more : goal.returns-clause-more
-returns-clause-more g c = c.loop-t.invariant.more
-
-pub returns-clause-looks : goal.returns-clause-looks
-returns-clause-looks g c = c.loop-t.invariant.looks
-
-pub returns-clause-standing : goal.returns-clause-standing
-returns-clause-standing g c = c.loop-t.invariant.standing
-
-pub returns-clause-firm : goal.returns-clause-firm
-returns-clause-firm g c = c.loop-t.invariant.firm
-
-pub returns-clause-caches : goal.returns-clause-caches
-returns-clause-caches g c = c.loop-t.invariant.caches
-
-pub returns-clause-in_update : goal.returns-clause-in_update
-returns-clause-in_update g c = c.loop-t.invariant.in_update
-
-pub returns-clause-goes : goal.returns-clause-goes
-returns-clause-goes g c = c.loop-t.invariant.goes
-
-pub returns-clause-sound : goal.returns-clause-sound
-returns-clause-sound g c = c.loop-t.invariant.sound
-
 pub returns-clause-ends : goal.returns-clause-ends
 returns-clause-ends g c = record { later = c.loop-t.invariant.later; stays = λ on. c.loop-t.invariant.running ∙ on; cause = c.loop-t.invariant.running }
-
-pub touch-requires-clause-sound : goal.touch-requires-clause-sound
-touch-requires-clause-sound g c = c.loop-t.invariant.sound
-
-pub touch-requires-clause-in_update : goal.touch-requires-clause-in_update
-touch-requires-clause-in_update g c = c.loop-t.invariant.in_update

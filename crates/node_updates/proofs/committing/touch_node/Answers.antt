@@ -24,24 +24,6 @@ touch_edits-requires-clause-places g c = (node_edits_fit _ _ _ c.args.change.now
 pub touch_edits-requires-clause-unnamed : goal.touch_edits-requires-clause-unnamed
 touch_edits-requires-clause-unnamed g c = (node_edits_fit _ _ _ c.args.change.now _ _ c.requires.shape c.touch.ensures.looks.count c.requires.can c.as_slice.ensures c.touch.ensures.caches).1
 
-pub returns-in_err-touch-clause-looks : goal.returns-in_err-touch-clause-looks
-returns-in_err-touch-clause-looks g c = c.touch.ensures.looks
-
-pub returns-in_err-touch-clause-standing : goal.returns-in_err-touch-clause-standing
-returns-in_err-touch-clause-standing g c = c.touch.ensures.standing
-
-pub returns-in_err-touch-clause-firm : goal.returns-in_err-touch-clause-firm
-returns-in_err-touch-clause-firm g c = c.touch.ensures.firm
-
-pub returns-in_err-touch-clause-in_update : goal.returns-in_err-touch-clause-in_update
-returns-in_err-touch-clause-in_update g c = c.touch.ensures.in_update
-
-pub returns-in_err-touch-clause-goes : goal.returns-in_err-touch-clause-goes
-returns-in_err-touch-clause-goes g c = c.touch.ensures.goes
-
-pub returns-in_err-touch-clause-sound : goal.returns-in_err-touch-clause-sound
-returns-in_err-touch-clause-sound g c = c.touch.ensures.sound
-
 pub returns-clause-looks : goal.returns-clause-looks
 returns-clause-looks g c = looks_trans _ _ _ c.touch.ensures.looks c.touch_edits.ensures.looks
 
@@ -51,23 +33,8 @@ returns-clause-standing g c = c.touch_edits.ensures.standing ∙ c.touch.ensures
 pub returns-clause-firm : goal.returns-clause-firm
 returns-clause-firm g c = firm_trans _ _ _ c.touch.ensures.firm c.touch_edits.ensures.firm
 
-pub returns-clause-in_update : goal.returns-clause-in_update
-returns-clause-in_update g c = c.touch_edits.ensures.in_update
-
 pub returns-clause-goes : goal.returns-clause-goes
 returns-clause-goes g c = c.touch.ensures.goes then c.touch_edits.ensures.goes
-
-pub touch-requires-clause-sound : goal.touch-requires-clause-sound
-touch-requires-clause-sound g c = c.requires.sound
-
-pub touch-requires-clause-in_update : goal.touch-requires-clause-in_update
-touch-requires-clause-in_update g c = c.requires.in_update
-
-pub touch_edits-requires-clause-sound : goal.touch_edits-requires-clause-sound
-touch_edits-requires-clause-sound g c = c.touch.ensures.sound
-
-pub touch_edits-requires-clause-in_update : goal.touch_edits-requires-clause-in_update
-touch_edits-requires-clause-in_update g c = c.touch.ensures.in_update
 
 pub returns-in_err-touch-clause-caches : goal.returns-in_err-touch-clause-caches
 returns-in_err-touch-clause-caches g c = caches_by_one _ _ _ _ _ c.touch.ensures.caches (inr (inl c.inode_block.ensures), refl)
@@ -98,6 +65,3 @@ returns-clause-caches g c = caches_by_trans _ _ _ _ (caches_by_one _ _ _ _ _ c.t
 
 pub returns-clause-ends : goal.returns-clause-ends
 returns-clause-ends g c = ends_later _ _ _ _ c.touch.ensures.ends.later c.in_ok-touch.ensures.ends.cause c.touch_edits.ensures.ends
-
-pub returns-clause-sound : goal.returns-clause-sound
-returns-clause-sound g c = c.touch_edits.ensures.sound

@@ -34,9 +34,6 @@ returns-in_err-k-clause-idle g c = (settles_kept c.args.b.0 (g.M.Machine.content
 pub returns-in_err-k-clause-goes : goal.returns-in_err-k-clause-goes
 returns-in_err-k-clause-goes g c = (settles_kept c.args.b.0 (g.M.Machine.contents c.args.m.now) (g.M.Machine.contents c.ready.new.m) (g.M.Machine.run c.args.m.now) (g.M.Machine.run c.ready.new.m) c.args.t.now c.ready.new.t c.requires.idle c.ready.ensures.keeps c.ready.ensures.tables.forgotten c.ready.ensures.lasts c.ready.ensures.ends.steps c.ready.ensures.writes).goes
 
-pub returns-in_err-k-clause-count : goal.returns-in_err-k-clause-count
-returns-in_err-k-clause-count g c = c.ready.ensures.lasts.blocks
-
 pub returns-in_err-put_frame-clause-either : goal.returns-in_err-put_frame-clause-either
 returns-in_err-put_frame-clause-either g c = inl (keeps_to (g.M.Machine.contents c.args.m.now) (g.M.Machine.contents c.ready.new.m) (g.M.Machine.contents c.put_frame.new.m) c.ready.ensures.keeps c.in_err-put_frame.ensures.same).reads
 
@@ -105,9 +102,6 @@ returns-in_err-put_frame-clause-ends g c =
     let stop : IsErrOf c.from_residual-in_err-put_frame.result Stopped = grind (arith, c.from_residual-in_err-put_frame.ensures) in
     ends_stopped (g.M.Machine.contents c.args.m.now) (g.M.Machine.contents c.put_frame.new.m) (g.M.Machine.run c.args.m.now) (g.M.Machine.run c.ready.new.m) (g.M.Machine.run c.put_frame.new.m) _ _ c.from_residual-in_err-put_frame.result stop (never _ Stopped) refl (lasts_trans (g.M.Machine.contents c.args.m.now) (g.M.Machine.contents c.ready.new.m) (g.M.Machine.contents c.put_frame.new.m) c.ready.ensures.lasts c.put_frame.ensures.lasts) c.in_ok-k.ensures.ends c.in_err-put_frame.ensures.ends
 
-pub returns-in_err-k-clause-marks : goal.returns-in_err-k-clause-marks
-returns-in_err-k-clause-marks g c = c.ready.ensures.marks
-
 pub returns-in_err-put_frame-clause-marks : goal.returns-in_err-put_frame-clause-marks
 returns-in_err-put_frame-clause-marks g c = marks_trans (Some c.args.b.0) _ _ _ c.ready.ensures.marks (marks_any (Some c.args.b.0) _ _ c.put_frame.ensures.marks)
 
@@ -131,21 +125,3 @@ returns-in_err-put_frame-clause-failed g c q = failed_used c.args.b.0 _ c.args.t
 
 pub returns-clause-failed : goal.returns-clause-failed
 returns-clause-failed g c q = absurd (true_false (sym q))
-
-pub returns-in_err-k-clause-caches : goal.returns-in_err-k-clause-caches
-returns-in_err-k-clause-caches g c = c.ready.ensures.caches
-
-pub returns-in_err-k-clause-leaves : goal.returns-in_err-k-clause-leaves
-returns-in_err-k-clause-leaves g c = c.ready.ensures.leaves
-
-pub returns-in_err-k-clause-sound : goal.returns-in_err-k-clause-sound
-returns-in_err-k-clause-sound g c = c.ready.ensures.sound
-
-pub returns-in_err-k-clause-writes : goal.returns-in_err-k-clause-writes
-returns-in_err-k-clause-writes g c = c.ready.ensures.writes
-
-pub returns-in_err-put_frame-clause-sound : goal.returns-in_err-put_frame-clause-sound
-returns-in_err-put_frame-clause-sound g c = c.put_frame.ensures.sound
-
-pub returns-clause-sound : goal.returns-clause-sound
-returns-clause-sound g c = c.put_frame.ensures.sound

@@ -14,9 +14,6 @@ loop-k-init g c = cleared_none c.args.marks.now _ _ c.requires.closed
 pub clear_entry-requires-clause-image : goal.clear_entry-requires-clause-image
 clear_entry-requires-clause-image g c = image_next (stale_block c.args.marks.now (g.M.Machine.contents c.args.m.now).words) _ _ _ _ _ _ c.requires.image c.loop-k.invariant.endures c.loop-k.invariant.ends
 
-pub clear_entry-requires-clause-closed : goal.clear_entry-requires-clause-closed
-clear_entry-requires-clause-closed g c = c.loop-k.invariant.ends.closed
-
 pub clear_entry-requires-clause-entry : goal.clear_entry-requires-clause-entry
 clear_entry-requires-clause-entry g c = subst (λ f. c.loop-k.k < f) (c.frame_count-frames.ensures ∙ sym c.loop-k.invariant.frames) c.loop-k-test.true
 
@@ -51,12 +48,6 @@ frame_count-frames-requires g c = record { layout = layout_now _ _ c.requires.im
 
 pub returns-in_err-clear_entry-clause-gone : goal.returns-in_err-clear_entry-clause-gone
 returns-in_err-clear_entry-clause-gone g c = not_ok _ c.from_residual.result c.from_residual.ensures.0
-
-pub returns-clause-endures : goal.returns-clause-endures
-returns-clause-endures g c = c.loop-k.invariant.endures
-
-pub returns-clause-rest : goal.returns-clause-rest
-returns-clause-rest g c = c.loop-k.invariant.rest
 
 pub returns-clause-ends : goal.returns-clause-ends
 returns-clause-ends g c = phase_as _ _ _ _ ⊥ ⊥ _ _ (λ x. x) (never _ Fault) (never _ Stopped) c.loop-k.invariant.ends

@@ -20,20 +20,11 @@ returns-clause-endures g c =
 pub load_tag-requires-clause-layout : goal.load_tag-requires-clause-layout
 load_tag-requires-clause-layout g c = layout_now _ _ c.requires.image
 
-pub load_tag-requires-clause-entry : goal.load_tag-requires-clause-entry
-load_tag-requires-clause-entry g c = c.requires.entry
-
 pub clear-requires : goal.clear-requires
 clear-requires g c = record { can = record { layout = layout_now _ _ c.requires.image; closed = c.requires.closed; entry = c.requires.entry } }
 
 pub returns-clause-gone : goal.returns-clause-gone
 returns-clause-gone g c = (retagged c.args.k 0 _ _ c.in_ok-clear.ensures.changes.one_entry c.in_ok-clear.ensures.entry).tag
-
-pub returns-clause-rest : goal.returns-clause-rest
-returns-clause-rest g c = c.clear.ensures.changes.rest
-
-pub returns-clause-one_entry : goal.returns-clause-one_entry
-returns-clause-one_entry g c = c.clear.ensures.changes.one_entry
 
 pub returns-clause-ends : goal.returns-clause-ends
 returns-clause-ends g c = phase_step _ _ _ _ _ _ (λ e. true_false (sym e)) c.clear.ensures.changes.closed c.clear.ensures.changes.lasts c.in_ok-clear.ensures.changes.ends
@@ -46,12 +37,6 @@ returns-in_err-clear-clause-endures g c = endures_same _ _ _ c.in_err-clear.ensu
 pub returns-in_err-clear-clause-gone : goal.returns-in_err-clear-clause-gone
 returns-in_err-clear-clause-gone g c = not_ok _ c.from_residual.result c.from_residual.ensures.0
 
-pub returns-in_err-clear-clause-rest : goal.returns-in_err-clear-clause-rest
-returns-in_err-clear-clause-rest g c = c.clear.ensures.changes.rest
-
-pub returns-in_err-clear-clause-one_entry : goal.returns-in_err-clear-clause-one_entry
-returns-in_err-clear-clause-one_entry g c = c.clear.ensures.changes.one_entry
-
 pub returns-in_err-clear-clause-ends : goal.returns-in_err-clear-clause-ends
 returns-in_err-clear-clause-ends g c =
     let p = err_from_is_err_and c.from_residual.result c.from_residual.ensures.1 in
@@ -61,9 +46,6 @@ returns-in_err-clear-clause-ends g c =
 
 pub returns-then-not-is_valid-clause-endures : goal.returns-then-not-is_valid-clause-endures
 returns-then-not-is_valid-clause-endures g c = endures_refl _ _
-
-pub returns-then-not-is_valid-clause-rest : goal.returns-then-not-is_valid-clause-rest
-returns-then-not-is_valid-clause-rest g c = refl
 
 pub returns-then-not-is_valid-clause-one_entry : goal.returns-then-not-is_valid-clause-one_entry
 returns-then-not-is_valid-clause-one_entry g c = one_same c.args.k _ _ refl

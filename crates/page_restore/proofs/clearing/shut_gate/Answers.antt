@@ -14,9 +14,6 @@ returns-clause-endures g c = endures_gated _ _ _ c.requires.image c.requires.emp
 pub returns-clause-empty : goal.returns-clause-empty
 returns-clause-empty g c = empty_gated _ _ _ c.requires.image c.in_ok-put_word.ensures.stored c.requires.empty
 
-pub put_word-requires-clause-closed : goal.put_word-requires-clause-closed
-put_word-requires-clause-closed g c = c.requires.closed
-
 pub returns-in_err-put_word-clause-endures : goal.returns-in_err-put_word-clause-endures
 returns-in_err-put_word-clause-endures g c = endures_same none_apart _ _ c.in_err-put_word.ensures.same
 

@@ -91,24 +91,6 @@ returns-clause-counts g c = λ l are.
 pub returns-clause-ends : goal.returns-clause-ends
 returns-clause-ends g c = phase_as _ _ _ _ _ _ _ _ (never _ Stopped) (never _ Fault) (never _ Stopped) (phase_then _ _ _ _ _ _ _ _ _ _ (never _ Stopped) (phase_then _ _ _ _ _ _ _ _ _ _ (never _ Stopped) c.in_ok-settle.ensures.ends c.in_ok-meta.ensures.ends) c.in_ok-pages.ensures.ends)
 
-pub settle-requires-clause-image : goal.settle-requires-clause-image
-settle-requires-clause-image g c = c.requires.image
-
-pub settle-requires-clause-closed : goal.settle-requires-clause-closed
-settle-requires-clause-closed g c = c.requires.closed
-
-pub settle-requires-clause-room : goal.settle-requires-clause-room
-settle-requires-clause-room g c = c.requires.room
-
-pub bring-requires-clause-closed : goal.bring-requires-clause-closed
-bring-requires-clause-closed g c = c.settle.ensures.ends.closed
-
-pub bring-requires-2-clause-closed : goal.bring-requires-2-clause-closed
-bring-requires-2-clause-closed g c = c.bring.ensures.ends.closed
-
-pub returns-in_err-settle-clause-brings : goal.returns-in_err-settle-clause-brings
-returns-in_err-settle-clause-brings g c = c.settle.ensures.brings
-
 pub returns-in_err-settle-clause-ends : goal.returns-in_err-settle-clause-ends
 returns-in_err-settle-clause-ends g c =
     let p = err_from_is_err_and c.from_residual.result c.from_residual.ensures.1 in
@@ -149,9 +131,3 @@ returns-in_err-pages-clause-counts g c = not_ok _ c.from_residual-in_err-pages.r
 
 pub returns-in_err-pages-clause-running : goal.returns-in_err-pages-clause-running
 returns-in_err-pages-clause-running g c = not_ok _ c.from_residual-in_err-pages.result c.from_residual-in_err-pages.ensures.0
-
-pub returns-clause-synced : goal.returns-clause-synced
-returns-clause-synced g c = c.in_ok-pages.ensures.synced
-
-pub returns-clause-running : goal.returns-clause-running
-returns-clause-running g c = c.in_ok-pages.ensures.running

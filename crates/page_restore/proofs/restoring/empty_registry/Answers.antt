@@ -32,38 +32,11 @@ returns-clause-rest g c = rest_then (g.M.Machine.contents c.args.m.now) (g.M.Mac
 pub returns-clause-ends : goal.returns-clause-ends
 returns-clause-ends g c = phase_then _ _ _ _ _ _ _ _ _ _ (never _ Stopped) c.in_ok-clear_entries.ensures.ends c.in_ok-shut_gate.ensures.ends
 
-pub clear_entries-requires-clause-image : goal.clear_entries-requires-clause-image
-clear_entries-requires-clause-image g c = c.requires.image
-
-pub clear_entries-requires-clause-closed : goal.clear_entries-requires-clause-closed
-clear_entries-requires-clause-closed g c = c.requires.closed
-
-pub clear_entries-requires-clause-synced : goal.clear_entries-requires-clause-synced
-clear_entries-requires-clause-synced g c = c.requires.synced
-
-pub clear_entries-requires-clause-home : goal.clear_entries-requires-clause-home
-clear_entries-requires-clause-home g c = c.requires.home
-
 pub returns-in_err-shut_gate-clause-empty : goal.returns-in_err-shut_gate-clause-empty
 returns-in_err-shut_gate-clause-empty g c = not_ok _ c.from_residual-in_err-shut_gate.result c.from_residual-in_err-shut_gate.ensures.0
 
 pub returns-in_err-shut_gate-clause-shut : goal.returns-in_err-shut_gate-clause-shut
 returns-in_err-shut_gate-clause-shut g c = not_ok _ c.from_residual-in_err-shut_gate.result c.from_residual-in_err-shut_gate.ensures.0
-
-pub shut_gate-requires-clause-closed : goal.shut_gate-requires-clause-closed
-shut_gate-requires-clause-closed g c = c.clear_entries.ensures.ends.closed
-
-pub shut_gate-requires-clause-empty : goal.shut_gate-requires-clause-empty
-shut_gate-requires-clause-empty g c = c.in_ok-clear_entries.ensures.gone
-
-pub returns-clause-shut : goal.returns-clause-shut
-returns-clause-shut g c = c.in_ok-shut_gate.ensures.shut
-
-pub returns-in_err-clear_entries-clause-endures : goal.returns-in_err-clear_entries-clause-endures
-returns-in_err-clear_entries-clause-endures g c = c.clear_entries.ensures.endures
-
-pub returns-in_err-clear_entries-clause-rest : goal.returns-in_err-clear_entries-clause-rest
-returns-in_err-clear_entries-clause-rest g c = c.clear_entries.ensures.rest
 
 pub returns-in_err-clear_entries-clause-empty : goal.returns-in_err-clear_entries-clause-empty
 returns-in_err-clear_entries-clause-empty g c = not_ok _ c.from_residual.result c.from_residual.ensures.0

@@ -51,21 +51,6 @@ returns-clause-running g c = c.in_ok-empty_registry.ensures.ends.ends.runs (neve
 pub returns-clause-ends : goal.returns-clause-ends
 returns-clause-ends g c = phase_as _ _ _ _ _ _ _ _ (never _ Stopped) (never _ Fault) (never _ Stopped) (phase_then _ _ _ _ _ _ _ _ _ _ (never _ Stopped) c.in_ok-counts.ensures.ends c.in_ok-empty_registry.ensures.ends)
 
-pub bring_home-requires-clause-image : goal.bring_home-requires-clause-image
-bring_home-requires-clause-image g c = c.requires.image
-
-pub bring_home-requires-clause-closed : goal.bring_home-requires-clause-closed
-bring_home-requires-clause-closed g c = c.requires.closed
-
-pub bring_home-requires-clause-room : goal.bring_home-requires-clause-room
-bring_home-requires-clause-room g c = c.requires.room
-
-pub bring_home-requires-clause-marks : goal.bring_home-requires-clause-marks
-bring_home-requires-clause-marks g c = c.requires.marks
-
-pub bring_home-requires-clause-of_data : goal.bring_home-requires-clause-of_data
-bring_home-requires-clause-of_data g c = c.requires.of_data
-
 pub returns-in_err-counts-clause-empty : goal.returns-in_err-counts-clause-empty
 returns-in_err-counts-clause-empty g c = not_ok _ c.from_residual.result c.from_residual.ensures.0
 
@@ -81,22 +66,10 @@ returns-in_err-counts-clause-counts g c = not_ok _ c.from_residual.result c.from
 pub returns-in_err-counts-clause-running : goal.returns-in_err-counts-clause-running
 returns-in_err-counts-clause-running g c = not_ok _ c.from_residual.result c.from_residual.ensures.0
 
-pub returns-in_err-counts-clause-dropped : goal.returns-in_err-counts-clause-dropped
-returns-in_err-counts-clause-dropped g c = c.bring_home.ensures.dropped
-
 pub returns-in_err-counts-clause-ends : goal.returns-in_err-counts-clause-ends
 returns-in_err-counts-clause-ends g c =
     let p = err_from_is_err_and c.from_residual.result c.from_residual.ensures.1 in
     phase_told _ _ _ _ _ _ (p.1 ∙ ap Err p.2) c.in_err-counts.ensures.ends
-
-pub empty_registry-requires-clause-closed : goal.empty_registry-requires-clause-closed
-empty_registry-requires-clause-closed g c = c.bring_home.ensures.ends.closed
-
-pub empty_registry-requires-clause-synced : goal.empty_registry-requires-clause-synced
-empty_registry-requires-clause-synced g c = c.in_ok-counts.ensures.synced
-
-pub empty_registry-requires-clause-home : goal.empty_registry-requires-clause-home
-empty_registry-requires-clause-home g c = c.in_ok-counts.ensures.home
 
 pub returns-in_err-empty_registry-clause-empty : goal.returns-in_err-empty_registry-clause-empty
 returns-in_err-empty_registry-clause-empty g c = not_ok _ c.from_residual-in_err-empty_registry.result c.from_residual-in_err-empty_registry.ensures.0
@@ -112,12 +85,3 @@ returns-in_err-empty_registry-clause-counts g c = not_ok _ c.from_residual-in_er
 
 pub returns-in_err-empty_registry-clause-running : goal.returns-in_err-empty_registry-clause-running
 returns-in_err-empty_registry-clause-running g c = not_ok _ c.from_residual-in_err-empty_registry.result c.from_residual-in_err-empty_registry.ensures.0
-
-pub returns-clause-empty : goal.returns-clause-empty
-returns-clause-empty g c = c.in_ok-empty_registry.ensures.empty
-
-pub returns-clause-shut : goal.returns-clause-shut
-returns-clause-shut g c = c.in_ok-empty_registry.ensures.shut
-
-pub returns-clause-counts : goal.returns-clause-counts
-returns-clause-counts g c = c.in_ok-counts.ensures.counts

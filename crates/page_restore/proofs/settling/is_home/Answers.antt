@@ -27,37 +27,16 @@ returns-clause-answer g c =
 pub load_tag-requires-clause-layout : goal.load_tag-requires-clause-layout
 load_tag-requires-clause-layout g c = layout_now _ _ c.requires.image
 
-pub load_tag-requires-clause-entry : goal.load_tag-requires-clause-entry
-load_tag-requires-clause-entry g c = c.requires.valid.within
-
 pub counted_page_of-page-requires-clause-layout : goal.counted_page_of-page-requires-clause-layout
 counted_page_of-page-requires-clause-layout g c = layout_now _ _ c.requires.image
-
-pub counted_page_of-page-requires-clause-shadows : goal.counted_page_of-page-requires-clause-shadows
-counted_page_of-page-requires-clause-shadows g c = c.requires.image.rules.shadows
-
-pub counted_page_of-page-requires-clause-valid : goal.counted_page_of-page-requires-clause-valid
-counted_page_of-page-requires-clause-valid g c = c.requires.valid
-
-pub read_block-requires-clause-closed : goal.read_block-requires-clause-closed
-read_block-requires-clause-closed g c = c.requires.closed
 
 pub read_block-requires-clause-block : goal.read_block-requires-clause-block
 read_block-requires-clause-block g c = subst (λ b. b < length (g.M.Machine.contents c.args.m.now).disk) (sym (c.block-number.ensures ∙ ap tag_block c.load_tag.ensures)) (c.requires.image.on_disk c.args.k c.requires.valid)
 
-pub read_block-requires-clause-room : goal.read_block-requires-clause-room
-read_block-requires-clause-room g c = c.requires.room
-
 -- ---- a read that failed
-
-pub returns-in_err-read_block-clause-room : goal.returns-in_err-read_block-clause-room
-returns-in_err-read_block-clause-room g c = c.read_block.ensures.room
 
 pub returns-in_err-read_block-clause-answer : goal.returns-in_err-read_block-clause-answer
 returns-in_err-read_block-clause-answer g c = not_ok _ c.from_residual.result c.from_residual.ensures.0
-
-pub returns-in_err-read_block-clause-same : goal.returns-in_err-read_block-clause-same
-returns-in_err-read_block-clause-same g c = c.read_block.ensures.same
 
 pub returns-in_err-read_block-clause-ends : goal.returns-in_err-read_block-clause-ends
 returns-in_err-read_block-clause-ends g c =
@@ -66,12 +45,6 @@ returns-in_err-read_block-clause-ends g c =
     read_failed _ _ _ _ _ _ (p.1 ∙ ap Err p.2) c.requires.closed h.same h.run h.lasts h.fault h.stopped
 
 -- ---- one that did not
-
-pub returns-clause-room : goal.returns-clause-room
-returns-clause-room g c = c.read_block.ensures.room
-
-pub returns-clause-same : goal.returns-clause-same
-returns-clause-same g c = c.read_block.ensures.same
 
 pub returns-clause-ends : goal.returns-clause-ends
 returns-clause-ends g c = read_done _ _ _ _ _ c.requires.closed c.read_block.ensures.same c.read_block.ensures.run c.read_block.ensures.lasts

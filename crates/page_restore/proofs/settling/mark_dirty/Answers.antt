@@ -13,9 +13,6 @@ use Rattle.page_restore.proofs.settling.mark_dirty.Goals as goal
 pub set_dirty-requires-clause-can : goal.set_dirty-requires-clause-can
 set_dirty-requires-clause-can g c = record { layout = layout_now _ _ c.requires.image; closed = c.requires.closed; entry = c.requires.valid.within }
 
-pub set_dirty-requires-clause-valid : goal.set_dirty-requires-clause-valid
-set_dirty-requires-clause-valid g c = c.requires.valid.valid
-
 -- ---- a stop
 
 pub returns-in_err-set_dirty-clause-endures : goal.returns-in_err-set_dirty-clause-endures
@@ -26,9 +23,6 @@ returns-in_err-set_dirty-clause-dirty g c = not_ok _ c.from_residual.result c.fr
 
 pub returns-in_err-set_dirty-clause-marked : goal.returns-in_err-set_dirty-clause-marked
 returns-in_err-set_dirty-clause-marked g c = marked_words _ _ c.args.k (ap (λ (x : Contents). x.words) c.in_err-set_dirty.ensures.same)
-
-pub returns-in_err-set_dirty-clause-one_entry : goal.returns-in_err-set_dirty-clause-one_entry
-returns-in_err-set_dirty-clause-one_entry g c = c.set_dirty.ensures.changes.one_entry
 
 pub returns-in_err-set_dirty-clause-disk : goal.returns-in_err-set_dirty-clause-disk
 returns-in_err-set_dirty-clause-disk g c = ap (λ (x : Contents). x.disk) c.set_dirty.ensures.changes.rest
@@ -54,9 +48,6 @@ pub returns-clause-marked : goal.returns-clause-marked
 returns-clause-marked g c =
     let h = c.in_ok-set_dirty.ensures in
     marked_now _ _ c.args.k c.requires.valid c.requires.differs (retagged c.args.k _ _ _ h.changes.one_entry h.entry)
-
-pub returns-clause-one_entry : goal.returns-clause-one_entry
-returns-clause-one_entry g c = c.set_dirty.ensures.changes.one_entry
 
 pub returns-clause-disk : goal.returns-clause-disk
 returns-clause-disk g c = ap (λ (x : Contents). x.disk) c.set_dirty.ensures.changes.rest

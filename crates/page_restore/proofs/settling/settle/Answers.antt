@@ -14,9 +14,6 @@ loop-k-init g c = record { walk = settled_none _ _ c.requires.closed; room = c.r
 pub settle_entry-requires-clause-image : goal.settle_entry-requires-clause-image
 settle_entry-requires-clause-image g c = image_next none_apart _ _ _ _ _ _ c.requires.image c.loop-k.invariant.walk.endures c.loop-k.invariant.walk.ends
 
-pub settle_entry-requires-clause-closed : goal.settle_entry-requires-clause-closed
-settle_entry-requires-clause-closed g c = c.loop-k.invariant.walk.ends.closed
-
 pub settle_entry-requires-clause-entry : goal.settle_entry-requires-clause-entry
 settle_entry-requires-clause-entry g c = subst (λ f. c.loop-k.k < f) (c.frame_count-frames.ensures ∙ sym c.loop-k.invariant.walk.frames) c.loop-k-test.true
 
@@ -61,29 +58,11 @@ returns-clause-settled g c = settled_all c.loop-k.k _ _ _ _ (omega (arith, c.loo
 pub frame_count-frames-requires : goal.frame_count-frames-requires
 frame_count-frames-requires g c = record { layout = layout_now _ _ c.requires.image }
 
-pub settle_entry-requires-clause-room : goal.settle_entry-requires-clause-room
-settle_entry-requires-clause-room g c = c.loop-k.invariant.room
-
-pub returns-in_err-settle_entry-clause-room : goal.returns-in_err-settle_entry-clause-room
-returns-in_err-settle_entry-clause-room g c = c.settle_entry.ensures.room
-
 pub returns-in_err-settle_entry-clause-settled : goal.returns-in_err-settle_entry-clause-settled
 returns-in_err-settle_entry-clause-settled g c = not_ok _ c.from_residual.result c.from_residual.ensures.0
 
 pub returns-in_err-settle_entry-clause-disk : goal.returns-in_err-settle_entry-clause-disk
 returns-in_err-settle_entry-clause-disk g c = c.settle_entry.ensures.disk ∙ c.loop-k.invariant.walk.disk
-
-pub returns-clause-room : goal.returns-clause-room
-returns-clause-room g c = c.loop-k.invariant.room
-
-pub returns-clause-marked : goal.returns-clause-marked
-returns-clause-marked g c = c.loop-k.invariant.walk.marked
-
-pub returns-clause-frames : goal.returns-clause-frames
-returns-clause-frames g c = c.loop-k.invariant.walk.frames
-
-pub returns-clause-disk : goal.returns-clause-disk
-returns-clause-disk g c = c.loop-k.invariant.walk.disk
 
 pub returns-clause-ends : goal.returns-clause-ends
 returns-clause-ends g c = phase_as _ _ _ _ ⊥ ⊥ _ _ (λ x. x) (never _ Fault) (never _ Stopped) c.loop-k.invariant.walk.ends

@@ -15,26 +15,11 @@ use Rattle.page_restore.proofs.settling.settle_entry.Goals as goal
 pub load_tag-tag-requires-clause-layout : goal.load_tag-tag-requires-clause-layout
 load_tag-tag-requires-clause-layout g c = layout_now _ _ c.requires.image
 
-pub load_tag-tag-requires-clause-entry : goal.load_tag-tag-requires-clause-entry
-load_tag-tag-requires-clause-entry g c = c.requires.entry
-
-pub is_home-requires-clause-image : goal.is_home-requires-clause-image
-is_home-requires-clause-image g c = c.requires.image
-
-pub is_home-requires-clause-closed : goal.is_home-requires-clause-closed
-is_home-requires-clause-closed g c = c.requires.closed
-
 pub is_home-requires-clause-valid : goal.is_home-requires-clause-valid
 is_home-requires-clause-valid g c = record { within = c.requires.entry; valid = ap is_valid (sym c.load_tag-tag.ensures) ∙ sym c.is_valid.ensures ∙ c.if-not-is_valid.false }
 
-pub is_home-requires-clause-room : goal.is_home-requires-clause-room
-is_home-requires-clause-room g c = c.requires.room
-
 pub mark_dirty-requires-clause-image : goal.mark_dirty-requires-clause-image
 mark_dirty-requires-clause-image g c = image_next none_apart _ _ _ _ _ _ c.requires.image (endures_read _ _ c.is_home.ensures.same) c.is_home.ensures.ends
-
-pub mark_dirty-requires-clause-closed : goal.mark_dirty-requires-clause-closed
-mark_dirty-requires-clause-closed g c = c.is_home.ensures.ends.closed
 
 pub mark_dirty-requires-clause-valid : goal.mark_dirty-requires-clause-valid
 mark_dirty-requires-clause-valid g c = valid_same c.args.k _ _ (ap (λ (x : Contents). x.words) c.is_home.ensures.same) (record { within = c.requires.entry; valid = ap is_valid (sym c.load_tag-tag.ensures) ∙ sym c.is_valid.ensures ∙ c.if-not-is_valid.false })
@@ -43,9 +28,6 @@ pub mark_dirty-requires-clause-differs : goal.mark_dirty-requires-clause-differs
 mark_dirty-requires-clause-differs g c = λ h. true_false (sym (c.in_ok-home.ensures.answer.1 (home_from _ _ c.args.k c.is_home.ensures.same h)) ∙ c.if-home.false)
 
 -- ---- an entry that is not valid
-
-pub returns-then-not-is_valid-clause-room : goal.returns-then-not-is_valid-clause-room
-returns-then-not-is_valid-clause-room g c = c.requires.room
 
 pub returns-then-not-is_valid-clause-endures : goal.returns-then-not-is_valid-clause-endures
 returns-then-not-is_valid-clause-endures g c = endures_refl none_apart _
@@ -59,16 +41,10 @@ returns-then-not-is_valid-clause-marked g c = marked_words _ _ c.args.k refl
 pub returns-then-not-is_valid-clause-one_entry : goal.returns-then-not-is_valid-clause-one_entry
 returns-then-not-is_valid-clause-one_entry g c = one_same c.args.k _ _ refl
 
-pub returns-then-not-is_valid-clause-disk : goal.returns-then-not-is_valid-clause-disk
-returns-then-not-is_valid-clause-disk g c = refl
-
 pub returns-then-not-is_valid-clause-ends : goal.returns-then-not-is_valid-clause-ends
 returns-then-not-is_valid-clause-ends g c = phase_none _ _ _ _ c.requires.closed (never _ Fault) (never _ Stopped)
 
 -- ---- one that is dirty
-
-pub returns-then-is_dirty-clause-room : goal.returns-then-is_dirty-clause-room
-returns-then-is_dirty-clause-room g c = c.requires.room
 
 pub returns-then-is_dirty-clause-endures : goal.returns-then-is_dirty-clause-endures
 returns-then-is_dirty-clause-endures g c = endures_refl none_apart _
@@ -82,16 +58,10 @@ returns-then-is_dirty-clause-marked g c = marked_words _ _ c.args.k refl
 pub returns-then-is_dirty-clause-one_entry : goal.returns-then-is_dirty-clause-one_entry
 returns-then-is_dirty-clause-one_entry g c = one_same c.args.k _ _ refl
 
-pub returns-then-is_dirty-clause-disk : goal.returns-then-is_dirty-clause-disk
-returns-then-is_dirty-clause-disk g c = refl
-
 pub returns-then-is_dirty-clause-ends : goal.returns-then-is_dirty-clause-ends
 returns-then-is_dirty-clause-ends g c = phase_none _ _ _ _ c.requires.closed (never _ Fault) (never _ Stopped)
 
 -- ---- a read that failed
-
-pub returns-in_err-home-clause-room : goal.returns-in_err-home-clause-room
-returns-in_err-home-clause-room g c = c.is_home.ensures.room
 
 pub returns-in_err-home-clause-endures : goal.returns-in_err-home-clause-endures
 returns-in_err-home-clause-endures g c = endures_read _ _ c.is_home.ensures.same
@@ -115,9 +85,6 @@ returns-in_err-home-clause-ends g c =
 
 -- ---- a page that is the disk's block
 
-pub returns-then-home-clause-room : goal.returns-then-home-clause-room
-returns-then-home-clause-room g c = c.is_home.ensures.room
-
 pub returns-then-home-clause-endures : goal.returns-then-home-clause-endures
 returns-then-home-clause-endures g c = endures_read _ _ c.is_home.ensures.same
 
@@ -134,9 +101,6 @@ pub returns-then-home-clause-ends : goal.returns-then-home-clause-ends
 returns-then-home-clause-ends g c = phase_well _ _ _ _ _ _ c.in_ok-home.ensures.ends
 
 -- ---- a mark that failed
-
-pub returns-in_err-mark_dirty-clause-room : goal.returns-in_err-mark_dirty-clause-room
-returns-in_err-mark_dirty-clause-room g c = c.is_home.ensures.room
 
 pub returns-in_err-mark_dirty-clause-endures : goal.returns-in_err-mark_dirty-clause-endures
 returns-in_err-mark_dirty-clause-endures g c = endures_trans none_apart _ _ _ (endures_read _ _ c.is_home.ensures.same) c.mark_dirty.ensures.endures
@@ -159,9 +123,6 @@ returns-in_err-mark_dirty-clause-ends g c =
     phase_told _ _ _ _ _ _ (p.1 ∙ ap Err p.2) (phase_then _ _ _ _ _ _ _ _ _ _ (never _ Stopped) c.in_ok-home.ensures.ends c.in_err-mark_dirty.ensures.ends)
 
 -- ---- a mark that was made
-
-pub returns-clause-room : goal.returns-clause-room
-returns-clause-room g c = c.is_home.ensures.room
 
 pub returns-clause-endures : goal.returns-clause-endures
 returns-clause-endures g c = endures_trans none_apart _ _ _ (endures_read _ _ c.is_home.ensures.same) c.mark_dirty.ensures.endures

@@ -35,24 +35,6 @@ returns-clause-writes g c = writes_disk c.args.kind c.args.marks.now _ _ _ c.syn
 pub returns-clause-ends : goal.returns-clause-ends
 returns-clause-ends g c = phase_as _ _ _ _ _ _ _ _ (never _ Stopped) (never _ Fault) (never _ Stopped) (phase_then _ _ _ _ _ _ _ _ _ _ (never _ Stopped) c.in_ok-count.ensures.ends c.in_ok-sync_all.ensures.ends)
 
-pub write_due-requires-clause-image : goal.write_due-requires-clause-image
-write_due-requires-clause-image g c = c.requires.image
-
-pub write_due-requires-clause-closed : goal.write_due-requires-clause-closed
-write_due-requires-clause-closed g c = c.requires.closed
-
-pub write_due-requires-clause-marks : goal.write_due-requires-clause-marks
-write_due-requires-clause-marks g c = c.requires.marks
-
-pub returns-in_err-count-clause-endures : goal.returns-in_err-count-clause-endures
-returns-in_err-count-clause-endures g c = c.write_due.ensures.endures
-
-pub returns-in_err-count-clause-words : goal.returns-in_err-count-clause-words
-returns-in_err-count-clause-words g c = c.write_due.ensures.words
-
-pub returns-in_err-count-clause-writes : goal.returns-in_err-count-clause-writes
-returns-in_err-count-clause-writes g c = c.write_due.ensures.writes
-
 pub returns-in_err-count-clause-ends : goal.returns-in_err-count-clause-ends
 returns-in_err-count-clause-ends g c =
     let p = err_from_is_err_and c.from_residual.result c.from_residual.ensures.1 in
@@ -87,6 +69,3 @@ returns-in_err-sync_all-clause-words g c = c.sync_all.ensures.words ∙ c.write_
 
 pub returns-clause-words : goal.returns-clause-words
 returns-clause-words g c = c.sync_all.ensures.words ∙ c.write_due.ensures.words
-
-pub returns-clause-count : goal.returns-clause-count
-returns-clause-count g c = c.in_ok-count.ensures.count

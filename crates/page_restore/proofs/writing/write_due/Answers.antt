@@ -17,9 +17,6 @@ loop-k-init g c = record { walk = wrote_none c.args.kind c.args.marks.now _ _ c.
 pub write_if_due-requires-clause-image : goal.write_if_due-requires-clause-image
 write_if_due-requires-clause-image g c = image_next none_apart _ _ _ _ _ _ c.requires.image c.loop-k.invariant.walk.endures c.loop-k.invariant.walk.ends
 
-pub write_if_due-requires-clause-closed : goal.write_if_due-requires-clause-closed
-write_if_due-requires-clause-closed g c = c.loop-k.invariant.walk.ends.closed
-
 pub write_if_due-requires-clause-entry : goal.write_if_due-requires-clause-entry
 write_if_due-requires-clause-entry g c = subst (λ f. c.loop-k.k < f) (c.frame_count-frames.ensures ∙ ap (λ (ws : List ℕ). frames_of ws) (sym c.loop-k.invariant.walk.words)) c.loop-k-test.true
 
@@ -80,15 +77,6 @@ returns-in_err-due-clause-brought g c = not_ok _ c.from_residual.result c.from_r
 
 pub returns-in_err-due-clause-count : goal.returns-in_err-due-clause-count
 returns-in_err-due-clause-count g c = not_ok _ c.from_residual.result c.from_residual.ensures.0
-
-pub returns-clause-endures : goal.returns-clause-endures
-returns-clause-endures g c = c.loop-k.invariant.walk.endures
-
-pub returns-clause-words : goal.returns-clause-words
-returns-clause-words g c = c.loop-k.invariant.walk.words
-
-pub returns-clause-writes : goal.returns-clause-writes
-returns-clause-writes g c = c.loop-k.invariant.walk.writes
 
 pub returns-clause-ends : goal.returns-clause-ends
 returns-clause-ends g c = phase_as _ _ _ _ ⊥ ⊥ _ _ (λ x. x) (never _ Fault) (never _ Stopped) c.loop-k.invariant.walk.ends

@@ -13,18 +13,6 @@ use Rattle.page_restore.proofs.writing.write_if_due.Goals as goal
 pub is_due-requires-clause-layout : goal.is_due-requires-clause-layout
 is_due-requires-clause-layout g c = layout_now _ _ c.requires.image
 
-pub is_due-requires-clause-entry : goal.is_due-requires-clause-entry
-is_due-requires-clause-entry g c = c.requires.entry
-
-pub is_due-requires-clause-marks : goal.is_due-requires-clause-marks
-is_due-requires-clause-marks g c = c.requires.marks
-
-pub write_page-requires-clause-image : goal.write_page-requires-clause-image
-write_page-requires-clause-image g c = c.requires.image
-
-pub write_page-requires-clause-closed : goal.write_page-requires-clause-closed
-write_page-requires-clause-closed g c = c.requires.closed
-
 pub write_page-requires-clause-valid : goal.write_page-requires-clause-valid
 write_page-requires-clause-valid g c = valid_due c.args.kind c.args.marks.now _ c.args.k c.requires.entry (sym c.is_due.ensures ∙ c.if-not-is_due.false)
 
@@ -35,9 +23,6 @@ write_page-requires-clause-dirty g c = dirty_due c.args.kind c.args.marks.now _ 
 
 pub returns-then-not-is_due-clause-endures : goal.returns-then-not-is_due-clause-endures
 returns-then-not-is_due-clause-endures g c = endures_refl none_apart _
-
-pub returns-then-not-is_due-clause-words : goal.returns-then-not-is_due-clause-words
-returns-then-not-is_due-clause-words g c = refl
 
 pub returns-then-not-is_due-clause-answer : goal.returns-then-not-is_due-clause-answer
 returns-then-not-is_due-clause-answer g c = sym c.if-not-is_due.true ∙ c.is_due.ensures
@@ -56,12 +41,6 @@ returns-then-not-is_due-clause-ends g c = phase_none _ _ _ _ c.requires.closed (
 
 -- ---- a write that failed
 
-pub returns-in_err-write_page-clause-endures : goal.returns-in_err-write_page-clause-endures
-returns-in_err-write_page-clause-endures g c = c.write_page.ensures.endures
-
-pub returns-in_err-write_page-clause-words : goal.returns-in_err-write_page-clause-words
-returns-in_err-write_page-clause-words g c = c.write_page.ensures.words
-
 pub returns-in_err-write_page-clause-answer : goal.returns-in_err-write_page-clause-answer
 returns-in_err-write_page-clause-answer g c = not_ok _ c.from_residual.result c.from_residual.ensures.0
 
@@ -71,21 +50,12 @@ returns-in_err-write_page-clause-home g c = not_ok _ c.from_residual.result c.fr
 pub returns-in_err-write_page-clause-same : goal.returns-in_err-write_page-clause-same
 returns-in_err-write_page-clause-same g c = λ out. absurd (true_false (sym c.if-not-is_due.false ∙ c.is_due.ensures ∙ out))
 
-pub returns-in_err-write_page-clause-others : goal.returns-in_err-write_page-clause-others
-returns-in_err-write_page-clause-others g c = c.write_page.ensures.others
-
 pub returns-in_err-write_page-clause-ends : goal.returns-in_err-write_page-clause-ends
 returns-in_err-write_page-clause-ends g c =
     let p = err_from_is_err_and c.from_residual.result c.from_residual.ensures.1 in
     phase_told _ _ _ _ _ _ (p.1 ∙ ap Err p.2) c.in_err-write_page.ensures.ends
 
 -- ---- a page that was written
-
-pub returns-clause-endures : goal.returns-clause-endures
-returns-clause-endures g c = c.write_page.ensures.endures
-
-pub returns-clause-words : goal.returns-clause-words
-returns-clause-words g c = c.write_page.ensures.words
 
 pub returns-clause-answer : goal.returns-clause-answer
 returns-clause-answer g c = sym c.if-not-is_due.false ∙ c.is_due.ensures
@@ -95,9 +65,6 @@ returns-clause-home g c = λ due. c.in_ok-write_page.ensures.home
 
 pub returns-clause-same : goal.returns-clause-same
 returns-clause-same g c = λ out. absurd (true_false (sym c.if-not-is_due.false ∙ c.is_due.ensures ∙ out))
-
-pub returns-clause-others : goal.returns-clause-others
-returns-clause-others g c = c.write_page.ensures.others
 
 pub returns-clause-ends : goal.returns-clause-ends
 returns-clause-ends g c = phase_well _ _ _ _ _ _ c.in_ok-write_page.ensures.ends

@@ -32,9 +32,6 @@ returns-clause-home g c =
     let old = g.M.Machine.contents c.args.m.now in
     home_written old _ c.args.k _ c.counted_page_of-page.result.0 c.write_block.ensures.writes_block.words (c.block-block.ensures ∙ ap tag_block c.load_tag.ensures) c.counted_page_of-page.ensures.page (c.in_ok-write_block.ensures.protected (omega (arith, c.counted_page_of-page.ensures.within)))
 
-pub returns-in_err-write_block-clause-words : goal.returns-in_err-write_block-clause-words
-returns-in_err-write_block-clause-words g c = c.write_block.ensures.writes_block.words
-
 pub returns-in_err-write_block-clause-home : goal.returns-in_err-write_block-clause-home
 returns-in_err-write_block-clause-home g c = not_ok _ c.from_residual.result c.from_residual.ensures.0
 
@@ -43,26 +40,14 @@ returns-in_err-write_block-clause-ends g c =
     let p = err_from_is_err_and c.from_residual.result c.from_residual.ensures.1 in
     step_failed _ _ _ _ _ _ (p.1 ∙ ap Err p.2) c.requires.closed c.write_block.ensures.writes_block.open_page c.write_block.ensures.lasts c.in_err-write_block.ensures.fault c.in_err-write_block.ensures.ends
 
-pub returns-clause-words : goal.returns-clause-words
-returns-clause-words g c = c.write_block.ensures.writes_block.words
-
 pub returns-clause-ends : goal.returns-clause-ends
 returns-clause-ends g c = phase_step _ _ _ _ _ _ (never _ Stopped) (c.write_block.ensures.writes_block.open_page ∙ c.requires.closed) c.write_block.ensures.lasts c.in_ok-write_block.ensures.ends
 
 pub load_tag-requires-clause-layout : goal.load_tag-requires-clause-layout
 load_tag-requires-clause-layout g c = layout_now _ _ c.requires.image
 
-pub load_tag-requires-clause-entry : goal.load_tag-requires-clause-entry
-load_tag-requires-clause-entry g c = c.requires.valid.within
-
 pub counted_page_of-page-requires-clause-layout : goal.counted_page_of-page-requires-clause-layout
 counted_page_of-page-requires-clause-layout g c = layout_now _ _ c.requires.image
-
-pub counted_page_of-page-requires-clause-valid : goal.counted_page_of-page-requires-clause-valid
-counted_page_of-page-requires-clause-valid g c = c.requires.valid
-
-pub write_block-requires-clause-closed : goal.write_block-requires-clause-closed
-write_block-requires-clause-closed g c = c.requires.closed
 
 pub write_block-requires-clause-block : goal.write_block-requires-clause-block
 write_block-requires-clause-block g c = subst (λ b. b < length (g.M.Machine.contents c.args.m.now).disk) (sym (c.block-block.ensures ∙ ap tag_block c.load_tag.ensures)) (c.requires.image.on_disk c.args.k c.requires.valid)

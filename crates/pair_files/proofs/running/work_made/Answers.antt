@@ -61,21 +61,6 @@ returns-in-Err-clause-ended g c = λ o of made.
 
 -- ---- what is asked of the calls
 
-pub boot-requires-clause-header : goal.boot-requires-clause-header
-boot-requires-clause-header g c = c.requires.header
-
-pub boot-requires-clause-layout : goal.boot-requires-clause-layout
-boot-requires-clause-layout g c = c.requires.layout
-
-pub boot-requires-clause-closed : goal.boot-requires-clause-closed
-boot-requires-clause-closed g c = c.requires.closed
-
-pub work_booted-requires-clause-sound : goal.work_booted-requires-clause-sound
-work_booted-requires-clause-sound g c = c.in-Ok.ensures.sound
-
-pub work_booted-requires-clause-unparted : goal.work_booted-requires-clause-unparted
-work_booted-requires-clause-unparted g c = c.requires.unparted
-
 pub end_unbooted-requires-clause-bytes : goal.end_unbooted-requires-clause-bytes
 end_unbooted-requires-clause-bytes g c =
     let old = c.args.machine in
@@ -90,46 +75,7 @@ end_unbooted-requires-clause-pages g c =
     let same = same_memory (g.B.M.Machine.contents old) (g.B.M.Machine.contents new) (g.B.M.Machine.run old) (g.B.M.Machine.run new) (g.met.B.M.Machine.protected_words old) (g.met.B.M.Machine.protected_words new) c.in-Err.ensures.runs.memory in
     (c.requires.pages.0, c.requires.pages.1, c.requires.pages.2 ∙ sym same)
 
-pub end_unbooted-requires-clause-unparted : goal.end_unbooted-requires-clause-unparted
-end_unbooted-requires-clause-unparted g c = c.requires.unparted
-
 -- ---- what is left of the bench and the streams
-
-pub returns-in-Ok-clause-parted : goal.returns-in-Ok-clause-parted
-returns-in-Ok-clause-parted g c = c.work_booted.ensures.parted
-
-pub returns-in-Ok-clause-began : goal.returns-in-Ok-clause-began
-returns-in-Ok-clause-began g c = c.work_booted.ensures.began
-
-pub returns-in-Ok-clause-tells : goal.returns-in-Ok-clause-tells
-returns-in-Ok-clause-tells g c = c.work_booted.ensures.tells
-
-pub returns-in-Ok-clause-tells_start : goal.returns-in-Ok-clause-tells_start
-returns-in-Ok-clause-tells_start g c = c.work_booted.ensures.tells_start
-
-pub returns-in-Ok-clause-pages : goal.returns-in-Ok-clause-pages
-returns-in-Ok-clause-pages g c = c.work_booted.ensures.pages
-
-pub returns-in-Ok-clause-source_later : goal.returns-in-Ok-clause-source_later
-returns-in-Ok-clause-source_later g c = c.work_booted.ensures.source_later
-
-pub returns-in-Ok-clause-sink_later : goal.returns-in-Ok-clause-sink_later
-returns-in-Ok-clause-sink_later g c = c.work_booted.ensures.sink_later
-
-pub returns-in-Err-clause-parted : goal.returns-in-Err-clause-parted
-returns-in-Err-clause-parted g c = c.end_unbooted.ensures.parted
-
-pub returns-in-Err-clause-began : goal.returns-in-Err-clause-began
-returns-in-Err-clause-began g c = c.end_unbooted.ensures.began
-
-pub returns-in-Err-clause-tells : goal.returns-in-Err-clause-tells
-returns-in-Err-clause-tells g c = c.end_unbooted.ensures.tells
-
-pub returns-in-Err-clause-tells_start : goal.returns-in-Err-clause-tells_start
-returns-in-Err-clause-tells_start g c = c.end_unbooted.ensures.tells_start
-
-pub returns-in-Err-clause-pages : goal.returns-in-Err-clause-pages
-returns-in-Err-clause-pages g c = c.end_unbooted.ensures.pages
 
 pub returns-in-Err-clause-source_later : goal.returns-in-Err-clause-source_later
 returns-in-Err-clause-source_later g c = le_refl _

@@ -3,47 +3,17 @@ use Rattle.test_objects.specs.ListVolumes.{ListSound}
 use Rattle.test_objects.specs.declared.list_volume.ListVolume.{ListVolume}
 use Rattle.part_tests.proofs.object_volume_tests.answers.Goals as goal
 
-pub store-requires-clause-sound : goal.store-requires-clause-sound
-store-requires-clause-sound c = c.requires.sound
-
-pub store-requires-clause-idle : goal.store-requires-clause-idle
-store-requires-clause-idle c = c.requires.idle
-
-pub begin-requires-clause-sound : goal.begin-requires-clause-sound
-begin-requires-clause-sound c = c.store.ensures.call.step.sound
-
-pub touch-requires-clause-sound : goal.touch-requires-clause-sound
-touch-requires-clause-sound c = c.begin.ensures.call.step.sound
-
-pub edit-requires-clause-sound : goal.edit-requires-clause-sound
-edit-requires-clause-sound c = c.touch.ensures.call.step.sound
-
-pub word-requires-clause-sound : goal.word-requires-clause-sound
-word-requires-clause-sound c = c.edit.ensures.call.step.sound
-
 pub rollback-requires-clause-sound : goal.rollback-requires-clause-sound
 rollback-requires-clause-sound c = subst ListSound (sym c.word.ensures.same) c.edit.ensures.call.step.sound
 
-pub word-requires-2-clause-sound : goal.word-requires-2-clause-sound
-word-requires-2-clause-sound c = c.rollback.ensures.call.step.sound
-
 pub flush-requires-clause-sound : goal.flush-requires-clause-sound
 flush-requires-clause-sound c = subst ListSound (sym c.word-2.ensures.same) c.rollback.ensures.call.step.sound
-
-pub fresh-requires-clause-sound : goal.fresh-requires-clause-sound
-fresh-requires-clause-sound c = c.flush.ensures.step.sound
-
-pub word-requires-3-clause-sound : goal.word-requires-3-clause-sound
-word-requires-3-clause-sound c = c.fresh.ensures.call.step.sound
 
 pub page-requires-clause-sound : goal.page-requires-clause-sound
 page-requires-clause-sound c = subst ListSound (sym c.word-3.ensures.same) c.fresh.ensures.call.step.sound
 
 pub forget-requires-clause-sound : goal.forget-requires-clause-sound
 forget-requires-clause-sound c = subst ListSound (sym c.word-3.ensures.same) c.fresh.ensures.call.step.sound
-
-pub store-stopped-requires-clause-sound : goal.store-stopped-requires-clause-sound
-store-stopped-requires-clause-sound c = c.restart.ensures.sound
 
 pub begin-requires-clause-idle : goal.begin-requires-clause-idle
 begin-requires-clause-idle c = ap (λ (v : ListVolume). v.updating) c.store.ensures.call.rest ∙ c.requires.idle
@@ -56,12 +26,6 @@ fresh-requires-clause-idle c = ap (λ (v : ListVolume). v.updating) c.flush.ensu
 
 pub forget-requires-clause-idle : goal.forget-requires-clause-idle
 forget-requires-clause-idle c = ap (λ (v : ListVolume). v.updating) c.word-3.ensures.same ∙ (ap (λ (v : ListVolume). v.updating) c.fresh.ensures.call.rest ∙ (ap (λ (v : ListVolume). v.updating) c.flush.ensures.rest ∙ (ap (λ (v : ListVolume). v.updating) c.word-2.ensures.same ∙ c.in_ok-rollback.ensures.call.idle)))
-
-pub store-stopped-requires-clause-idle : goal.store-stopped-requires-clause-idle
-store-stopped-requires-clause-idle c = c.restart.ensures.idle
-
-pub touch-requires-clause-in_update : goal.touch-requires-clause-in_update
-touch-requires-clause-in_update c = c.in_ok-begin.ensures.call.updating
 
 pub touch-requires-clause-room : goal.touch-requires-clause-room
 touch-requires-clause-room c = inr (let none = c.in_ok-begin.ensures.call.touches in omega (arith, none))

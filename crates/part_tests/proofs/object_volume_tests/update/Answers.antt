@@ -7,15 +7,6 @@ use Rattle.part_tests.proofs.object_volume_tests.update.Goals as goal
 pub returns-in_err-begin-clause-whole : goal.returns-in_err-begin-clause-whole
 returns-in_err-begin-clause-whole g c = inl c.begin.ensures.standing
 
-pub returns-in_err-begin-clause-count : goal.returns-in_err-begin-clause-count
-returns-in_err-begin-clause-count g c = c.begin.ensures.looks.count
-
-pub returns-in_err-begin-clause-goes : goal.returns-in_err-begin-clause-goes
-returns-in_err-begin-clause-goes g c = c.begin.ensures.goes
-
-pub returns-in_err-begin-clause-sound : goal.returns-in_err-begin-clause-sound
-returns-in_err-begin-clause-sound g c = c.begin.ensures.sound
-
 pub returns-in_err-touch-clause-whole : goal.returns-in_err-touch-clause-whole
 returns-in_err-touch-clause-whole g c = inl (c.touch.ensures.standing ∙ c.begin.ensures.standing)
 
@@ -24,9 +15,6 @@ returns-in_err-touch-clause-count g c = c.touch.ensures.looks.count ∙ c.begin.
 
 pub returns-in_err-touch-clause-goes : goal.returns-in_err-touch-clause-goes
 returns-in_err-touch-clause-goes g c = c.begin.ensures.goes then c.touch.ensures.goes
-
-pub returns-in_err-touch-clause-sound : goal.returns-in_err-touch-clause-sound
-returns-in_err-touch-clause-sound g c = c.touch.ensures.sound
 
 pub returns-in_err-touch-2-clause-whole : goal.returns-in_err-touch-2-clause-whole
 returns-in_err-touch-2-clause-whole g c = inl (c.touch-2.ensures.standing ∙ (c.touch.ensures.standing ∙ c.begin.ensures.standing))
@@ -37,9 +25,6 @@ returns-in_err-touch-2-clause-count g c = c.touch-2.ensures.looks.count ∙ (c.t
 pub returns-in_err-touch-2-clause-goes : goal.returns-in_err-touch-2-clause-goes
 returns-in_err-touch-2-clause-goes g c = c.begin.ensures.goes then c.touch.ensures.goes then c.touch-2.ensures.goes
 
-pub returns-in_err-touch-2-clause-sound : goal.returns-in_err-touch-2-clause-sound
-returns-in_err-touch-2-clause-sound g c = c.touch-2.ensures.sound
-
 pub returns-in_err-edit-clause-whole : goal.returns-in_err-edit-clause-whole
 returns-in_err-edit-clause-whole g c = inl (c.edit.ensures.standing ∙ (c.touch-2.ensures.standing ∙ (c.touch.ensures.standing ∙ c.begin.ensures.standing)))
 
@@ -48,9 +33,6 @@ returns-in_err-edit-clause-count g c = c.edit.ensures.count ∙ (c.touch-2.ensur
 
 pub returns-in_err-edit-clause-goes : goal.returns-in_err-edit-clause-goes
 returns-in_err-edit-clause-goes g c = c.begin.ensures.goes then c.touch.ensures.goes then c.touch-2.ensures.goes then c.edit.ensures.goes
-
-pub returns-in_err-edit-clause-sound : goal.returns-in_err-edit-clause-sound
-returns-in_err-edit-clause-sound g c = c.edit.ensures.sound
 
 pub returns-in_err-edit-2-clause-whole : goal.returns-in_err-edit-2-clause-whole
 returns-in_err-edit-2-clause-whole g c = inl (c.edit-2.ensures.standing ∙ (c.edit.ensures.standing ∙ (c.touch-2.ensures.standing ∙ (c.touch.ensures.standing ∙ c.begin.ensures.standing))))
@@ -61,9 +43,6 @@ returns-in_err-edit-2-clause-count g c = c.edit-2.ensures.count ∙ (c.edit.ensu
 pub returns-in_err-edit-2-clause-goes : goal.returns-in_err-edit-2-clause-goes
 returns-in_err-edit-2-clause-goes g c = c.begin.ensures.goes then c.touch.ensures.goes then c.touch-2.ensures.goes then c.edit.ensures.goes then c.edit-2.ensures.goes
 
-pub returns-in_err-edit-2-clause-sound : goal.returns-in_err-edit-2-clause-sound
-returns-in_err-edit-2-clause-sound g c = c.edit-2.ensures.sound
-
 pub returns-in_err-commit-clause-whole : goal.returns-in_err-commit-clause-whole
 returns-in_err-commit-clause-whole g c = elim c.commit.ensures.stopped [ inl same ↦ inl (same ∙ (c.edit-2.ensures.standing ∙ (c.edit.ensures.standing ∙ (c.touch-2.ensures.standing ∙ (c.touch.ensures.standing ∙ c.begin.ensures.standing))))) | inr done ↦ inr (done ∙ (c.in_ok-edit-2.ensures.ok ∙ ap (λ f. put f c.args.b.0 0 c.args.value) (c.in_ok-edit.ensures.ok ∙ ap (λ f. put f c.args.a.0 0 c.args.value) (c.touch-2.ensures.looks.words ∙ (c.touch.ensures.looks.words ∙ c.begin.ensures.looks.words))))) ]
 
@@ -72,9 +51,6 @@ returns-in_err-commit-clause-count g c = c.commit.ensures.looks.count ∙ (c.edi
 
 pub returns-in_err-commit-clause-goes : goal.returns-in_err-commit-clause-goes
 returns-in_err-commit-clause-goes g c = c.begin.ensures.goes then c.touch.ensures.goes then c.touch-2.ensures.goes then c.edit.ensures.goes then c.edit-2.ensures.goes then c.commit.ensures.goes
-
-pub returns-in_err-commit-clause-sound : goal.returns-in_err-commit-clause-sound
-returns-in_err-commit-clause-sound g c = c.commit.ensures.sound
 
 pub returns-clause-ok : goal.returns-clause-ok
 returns-clause-ok g c = c.commit.ensures.looks.words ∙ (c.in_ok-edit-2.ensures.ok ∙ ap (λ f. put f c.args.b.0 0 c.args.value) (c.in_ok-edit.ensures.ok ∙ ap (λ f. put f c.args.a.0 0 c.args.value) (c.touch-2.ensures.looks.words ∙ (c.touch.ensures.looks.words ∙ c.begin.ensures.looks.words))))
@@ -87,9 +63,6 @@ returns-clause-count g c = c.commit.ensures.looks.count ∙ (c.edit-2.ensures.co
 
 pub returns-clause-goes : goal.returns-clause-goes
 returns-clause-goes g c = c.begin.ensures.goes then c.touch.ensures.goes then c.touch-2.ensures.goes then c.edit.ensures.goes then c.edit-2.ensures.goes then c.commit.ensures.goes
-
-pub returns-clause-sound : goal.returns-clause-sound
-returns-clause-sound g c = c.commit.ensures.sound
 
 pub touch-requires-clause-metadata : goal.touch-requires-clause-metadata
 touch-requires-clause-metadata g c = dropped_metadata _ _ _ c.requires.first c.begin.ensures.drops

@@ -60,23 +60,8 @@ returns-clause-listed g c =
     let all : Allocates old (f c.change_map.new.r) c.args.units c.in-Some.at = allocated old here (f c.first_fit.new.r) (f c.change_map.new.r) c.args.units c.in-Some.at c.read_header.ensures.words c.first_fit.ensures.words fit c.in_ok-change_map.ensures.ok in
     blocks_added (live old) (live (f c.change_map.new.r)) (old 2) c.in-Some.at c.args.units c.requires.units c.requires.heap all.fit.gap all.added
 
-pub read_header-requires-clause-ready : goal.read_header-requires-clause-ready
-read_header-requires-clause-ready g c = c.requires.ready
-
-pub read_header-requires-clause-region : goal.read_header-requires-clause-region
-read_header-requires-clause-region g c = c.requires.region
-
-pub first_fit-requires-clause-ready : goal.first_fit-requires-clause-ready
-first_fit-requires-clause-ready g c = c.read_header.ensures.stays.ready
-
-pub first_fit-requires-clause-region : goal.first_fit-requires-clause-region
-first_fit-requires-clause-region g c = c.read_header.ensures.region
-
 pub first_fit-requires-clause-header : goal.first_fit-requires-clause-header
 first_fit-requires-clause-header g c = subst (λ (w : ℕ → ℕ). IsHeader w c.in_ok-header.header) (sym c.read_header.ensures.words) c.in_ok-header.ensures.header
-
-pub change_map-requires-clause-ready : goal.change_map-requires-clause-ready
-change_map-requires-clause-ready g c = c.first_fit.ensures.stays.ready
 
 pub change_map-requires-clause-region : goal.change_map-requires-clause-region
 change_map-requires-clause-region g c = region_at _ _ _ _ c.read_header.ensures.region c.first_fit.ensures.stays.count c.first_fit.ensures.words
@@ -107,12 +92,6 @@ returns-in_err-header-clause-listed g c =
 pub returns-in_err-header-clause-before : goal.returns-in_err-header-clause-before
 returns-in_err-header-clause-before g c =
     subst (λ w. Undoes (g.R.RegionWords.count c.args.r.now) (g.R.RegionWords.words c.args.r.now) w) (sym c.read_header.ensures.words) (undoes_refl (g.R.RegionWords.count c.args.r.now) (g.R.RegionWords.words c.args.r.now) c.requires.region)
-
-pub returns-in_err-header-clause-region : goal.returns-in_err-header-clause-region
-returns-in_err-header-clause-region g c = c.read_header.ensures.region
-
-pub returns-in_err-header-clause-stays : goal.returns-in_err-header-clause-stays
-returns-in_err-header-clause-stays g c = c.read_header.ensures.stays
 
 pub returns-in_err-header-clause-refused : goal.returns-in_err-header-clause-refused
 returns-in_err-header-clause-refused g c = λ told. c.read_header.ensures.words
@@ -231,18 +210,6 @@ returns-in_err-at-clause-undo_full g c =
     let p = err_from_is_err_and c.from_residual-in_err-at.result c.from_residual-in_err-at.ensures.1 in
     λ told. absurd (heap_not_undo c.from_residual-in_err-at.result _ p.0 p.1 p.2 told)
 
-pub returns-in_default-clause-ok : goal.returns-in_default-clause-ok
-returns-in_default-clause-ok g c = tt
-
-pub returns-in_default-clause-heap : goal.returns-in_default-clause-heap
-returns-in_default-clause-heap g c = tt
-
-pub returns-in_default-clause-listed : goal.returns-in_default-clause-listed
-returns-in_default-clause-listed g c = tt
-
-pub returns-in_default-clause-room : goal.returns-in_default-clause-room
-returns-in_default-clause-room g c = tt
-
 pub returns-in_default-clause-undo_full : goal.returns-in_default-clause-undo_full
 returns-in_default-clause-undo_full g c = λ told. absurd (no_gap_alone.0 told)
 
@@ -287,12 +254,6 @@ returns-clause-full g c = λ told. absurd (heap_none _ _ told)
 
 pub returns-clause-no_block : goal.returns-clause-no_block
 returns-clause-no_block g c = heap_none _ _
-
-pub first_fit-requires-clause-units : goal.first_fit-requires-clause-units
-first_fit-requires-clause-units g c = c.requires.units
-
-pub change_map-requires-clause-units : goal.change_map-requires-clause-units
-change_map-requires-clause-units g c = c.requires.units
 
 pub returns-clause-undo_full : goal.returns-clause-undo_full
 returns-clause-undo_full g c = λ told. absurd (heap_none _ _ told)

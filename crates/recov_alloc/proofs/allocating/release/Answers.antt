@@ -64,23 +64,8 @@ returns-clause-listed g c =
     let all : Releases old (f c.change_map.new.r) n c.args.unit = released old here (f c.block_at.new.r) (f c.change_map.new.r) n c.args.unit c.read_header.ensures.words c.block_at.ensures.words block c.in_ok-change_map.ensures.ok in
     blocks_removed (live old) (live (f c.change_map.new.r)) (old 2) c.args.unit n c.requires.heap all.block all.removed
 
-pub read_header-requires-clause-ready : goal.read_header-requires-clause-ready
-read_header-requires-clause-ready g c = c.requires.ready
-
-pub read_header-requires-clause-region : goal.read_header-requires-clause-region
-read_header-requires-clause-region g c = c.requires.region
-
-pub block_at-requires-clause-ready : goal.block_at-requires-clause-ready
-block_at-requires-clause-ready g c = c.read_header.ensures.stays.ready
-
-pub block_at-requires-clause-region : goal.block_at-requires-clause-region
-block_at-requires-clause-region g c = c.read_header.ensures.region
-
 pub block_at-requires-clause-header : goal.block_at-requires-clause-header
 block_at-requires-clause-header g c = subst (λ (w : ℕ → ℕ). IsHeader w c.in_ok-header.header) (sym c.read_header.ensures.words) c.in_ok-header.ensures.header
-
-pub change_map-requires-clause-ready : goal.change_map-requires-clause-ready
-change_map-requires-clause-ready g c = c.block_at.ensures.stays.ready
 
 pub change_map-requires-clause-region : goal.change_map-requires-clause-region
 change_map-requires-clause-region g c = region_at _ _ _ _ c.read_header.ensures.region c.block_at.ensures.stays.count c.block_at.ensures.words
@@ -106,12 +91,6 @@ returns-in_err-header-clause-listed g c =
 pub returns-in_err-header-clause-before : goal.returns-in_err-header-clause-before
 returns-in_err-header-clause-before g c =
     subst (λ w. Undoes (g.R.RegionWords.count c.args.r.now) (g.R.RegionWords.words c.args.r.now) w) (sym c.read_header.ensures.words) (undoes_refl (g.R.RegionWords.count c.args.r.now) (g.R.RegionWords.words c.args.r.now) c.requires.region)
-
-pub returns-in_err-header-clause-region : goal.returns-in_err-header-clause-region
-returns-in_err-header-clause-region g c = c.read_header.ensures.region
-
-pub returns-in_err-header-clause-stays : goal.returns-in_err-header-clause-stays
-returns-in_err-header-clause-stays g c = c.read_header.ensures.stays
 
 pub returns-in_err-header-clause-refused : goal.returns-in_err-header-clause-refused
 returns-in_err-header-clause-refused g c = λ told. c.read_header.ensures.words
@@ -219,15 +198,6 @@ pub returns-in_err-units-clause-undo_full : goal.returns-in_err-units-clause-und
 returns-in_err-units-clause-undo_full g c =
     let p = err_from_is_err_and c.from_residual-in_err-units.result c.from_residual-in_err-units.ensures.1 in
     λ told. absurd (heap_not_undo c.from_residual-in_err-units.result _ p.0 p.1 p.2 told)
-
-pub returns-in_default-clause-ok : goal.returns-in_default-clause-ok
-returns-in_default-clause-ok g c = tt
-
-pub returns-in_default-clause-heap : goal.returns-in_default-clause-heap
-returns-in_default-clause-heap g c = tt
-
-pub returns-in_default-clause-listed : goal.returns-in_default-clause-listed
-returns-in_default-clause-listed g c = tt
 
 pub returns-in_default-clause-undo_full : goal.returns-in_default-clause-undo_full
 returns-in_default-clause-undo_full g c = λ told. absurd (no_block_alone.0 told)

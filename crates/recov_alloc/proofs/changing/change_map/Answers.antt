@@ -22,57 +22,6 @@ returns-clause-ok g c =
     let f = g.R.RegionWords.words in
     changed (f c.args.r.now) (f c.args.r.now) (f c.save_map.new.r) (f c.mark_block.new.r) (g.R.RegionWords.count c.args.r.now) c.args.at c.args.units (cond c.args.on 1 0) refl c.in_ok-save_map.ensures.ok c.in_ok-mark_block.ensures.ok c.mark_block.ensures.keeps.records
 
-pub returns-then-at-units-le64-clause-ok : goal.returns-then-at-units-le64-clause-ok
-returns-then-at-units-le64-clause-ok g c = c.change_page.ensures.ok
-
-pub returns-then-at-units-le64-clause-room : goal.returns-then-at-units-le64-clause-room
-returns-then-at-units-le64-clause-room g c = c.change_page.ensures.room
-
-pub returns-then-at-units-le64-clause-full : goal.returns-then-at-units-le64-clause-full
-returns-then-at-units-le64-clause-full g c = c.change_page.ensures.full
-
-pub returns-then-at-units-le64-clause-refused : goal.returns-then-at-units-le64-clause-refused
-returns-then-at-units-le64-clause-refused g c = c.change_page.ensures.refused
-
-pub returns-then-at-units-le64-clause-before : goal.returns-then-at-units-le64-clause-before
-returns-then-at-units-le64-clause-before g c = c.change_page.ensures.before
-
-pub returns-then-at-units-le64-clause-stays : goal.returns-then-at-units-le64-clause-stays
-returns-then-at-units-le64-clause-stays g c = c.change_page.ensures.stays
-
-pub returns-then-at-units-le64-clause-ends : goal.returns-then-at-units-le64-clause-ends
-returns-then-at-units-le64-clause-ends g c = c.change_page.ensures.ends
-
-pub save_map-requires-clause-ready : goal.save_map-requires-clause-ready
-save_map-requires-clause-ready g c = c.requires.ready
-
-pub save_map-requires-clause-region : goal.save_map-requires-clause-region
-save_map-requires-clause-region g c = c.requires.region
-
-pub save_map-requires-clause-header : goal.save_map-requires-clause-header
-save_map-requires-clause-header g c = c.requires.header
-
-pub save_map-requires-clause-units : goal.save_map-requires-clause-units
-save_map-requires-clause-units g c = c.requires.units
-
-pub save_map-requires-clause-within : goal.save_map-requires-clause-within
-save_map-requires-clause-within g c = c.requires.within
-
-pub change_page-requires-clause-ready : goal.change_page-requires-clause-ready
-change_page-requires-clause-ready g c = c.requires.ready
-
-pub change_page-requires-clause-region : goal.change_page-requires-clause-region
-change_page-requires-clause-region g c = c.requires.region
-
-pub change_page-requires-clause-header : goal.change_page-requires-clause-header
-change_page-requires-clause-header g c = c.requires.header
-
-pub change_page-requires-clause-units : goal.change_page-requires-clause-units
-change_page-requires-clause-units g c = c.requires.units
-
-pub change_page-requires-clause-within : goal.change_page-requires-clause-within
-change_page-requires-clause-within g c = c.requires.within
-
 pub returns-in_err-save_map-clause-ok : goal.returns-in_err-save_map-clause-ok
 returns-in_err-save_map-clause-ok g c =
     let p = err_from_is_err_and c.from_residual.result c.from_residual.ensures.1 in
@@ -93,19 +42,10 @@ returns-in_err-save_map-clause-refused g c =
     let p = err_from_is_err_and c.from_residual.result c.from_residual.ensures.1 in
     λ full. c.save_map.ensures.refused (same_err c.save_map.result c.from_residual.result _ p.0 c.in_err-save_map.was p.1 p.2 ∙ full)
 
-pub returns-in_err-save_map-clause-before : goal.returns-in_err-save_map-clause-before
-returns-in_err-save_map-clause-before g c = c.save_map.ensures.before
-
-pub returns-in_err-save_map-clause-stays : goal.returns-in_err-save_map-clause-stays
-returns-in_err-save_map-clause-stays g c = c.save_map.ensures.stays
-
 pub returns-in_err-save_map-clause-ends : goal.returns-in_err-save_map-clause-ends
 returns-in_err-save_map-clause-ends g c =
     let p = err_from_is_err_and c.from_residual.result c.from_residual.ensures.1 in
     ends_same _ _ c.save_map.result c.from_residual.result _ p.0 c.in_err-save_map.was p.1 p.2 c.save_map.ensures.ends
-
-pub mark_block-requires-clause-ready : goal.mark_block-requires-clause-ready
-mark_block-requires-clause-ready g c = c.save_map.ensures.stays.ready
 
 pub mark_block-requires-clause-region : goal.mark_block-requires-clause-region
 mark_block-requires-clause-region g c = subst (λ k. IsRegion k (g.R.RegionWords.words c.save_map.new.r)) (sym c.save_map.ensures.stays.count) c.save_map.ensures.before.region
@@ -151,9 +91,6 @@ returns-clause-full g c = λ told. absurd (no_err tt _ told)
 pub returns-clause-refused : goal.returns-clause-refused
 returns-clause-refused g c = λ told. absurd (no_err tt _ told)
 
-pub returns-clause-room : goal.returns-clause-room
-returns-clause-room g c = c.in_ok-save_map.ensures.room
-
 pub returns-clause-before : goal.returns-clause-before
 returns-clause-before g c =
     undoes_trans (g.R.RegionWords.count c.args.r.now) (g.R.RegionWords.words c.args.r.now) (g.R.RegionWords.words c.save_map.new.r) (g.R.RegionWords.words c.mark_block.new.r) c.save_map.ensures.before (subst (λ k. Undoes k (g.R.RegionWords.words c.save_map.new.r) (g.R.RegionWords.words c.mark_block.new.r)) c.save_map.ensures.stays.count c.mark_block.ensures.keeps.undoes)
@@ -166,6 +103,3 @@ returns-clause-ends g c = ends_did _ _ tt (le_trans c.save_map.ensures.ends.late
 
 pub change_page-requires-clause-page : goal.change_page-requires-clause-page
 change_page-requires-clause-page g c = c.if-at-units-le64.true
-
-pub mark_block-requires-clause-units : goal.mark_block-requires-clause-units
-mark_block-requires-clause-units g c = c.requires.units

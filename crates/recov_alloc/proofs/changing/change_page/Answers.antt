@@ -50,32 +50,11 @@ returns-clause-ok g c =
     let marks = page_marked (live (f c.set_pair.new.r)) (live (f c.mark_words.new.r)) c.args.at c.args.units (cond c.args.on 1 0) c.requires.units c.requires.page c.in_ok-mark_words.ensures.ok in
     changed (f c.args.r.now) (f c.read_places_behind.new.r) (f c.set_pair.new.r) (f c.mark_words.new.r) (g.R.RegionWords.count c.read_places_behind.new.r) c.args.at c.args.units (cond c.args.on 1 0) c.read_places_behind.ensures.words gain marks c.mark_words.ensures.keeps.records
 
-pub read_places_behind-requires-clause-ready : goal.read_places_behind-requires-clause-ready
-read_places_behind-requires-clause-ready g c = c.requires.ready
-
-pub read_places_behind-requires-clause-region : goal.read_places_behind-requires-clause-region
-read_places_behind-requires-clause-region g c = c.requires.region
-
-pub read_places_behind-requires-clause-undo : goal.read_places_behind-requires-clause-undo
-read_places_behind-requires-clause-undo g c = c.requires.header.undo
-
-pub set_pair-requires-clause-ready : goal.set_pair-requires-clause-ready
-set_pair-requires-clause-ready g c = c.read_places_behind.ensures.stays.ready
-
-pub set_pair-requires-clause-region : goal.set_pair-requires-clause-region
-set_pair-requires-clause-region g c = c.read_places_behind.ensures.region
-
 pub set_pair-requires-clause-header : goal.set_pair-requires-clause-header
 set_pair-requires-clause-header g c = subst (λ (w : ℕ → ℕ). IsHeader w c.args.header) (sym c.read_places_behind.ensures.words) c.requires.header
 
 pub set_pair-requires-clause-place : goal.set_pair-requires-clause-place
 set_pair-requires-clause-place g c = subst (λ (w : ℕ → ℕ). 2 * (c.args.at / 64) + 2 ≤ places w) (sym c.read_places_behind.ensures.words) (omega (arith, c.requires.within, c.requires.units))
-
-pub mark_words-requires-clause-ready : goal.mark_words-requires-clause-ready
-mark_words-requires-clause-ready g c = c.set_pair.ensures.stays.ready
-
-pub mark_words-requires-clause-region : goal.mark_words-requires-clause-region
-mark_words-requires-clause-region g c = c.set_pair.ensures.region
 
 pub mark_words-requires-clause-undo : goal.mark_words-requires-clause-undo
 mark_words-requires-clause-undo g c = c.requires.header.undo ∙ sym (ap (λ (w : ℕ → ℕ). w 1) c.read_places_behind.ensures.words) ∙ sym c.set_pair.ensures.before.sizes.undo
@@ -104,9 +83,6 @@ returns-in_err-read_places_behind-clause-refused g c = λ full. c.read_places_be
 pub returns-in_err-read_places_behind-clause-before : goal.returns-in_err-read_places_behind-clause-before
 returns-in_err-read_places_behind-clause-before g c =
     subst (λ w. Undoes (g.R.RegionWords.count c.args.r.now) (g.R.RegionWords.words c.args.r.now) w) (sym c.read_places_behind.ensures.words) (undoes_refl (g.R.RegionWords.count c.args.r.now) (g.R.RegionWords.words c.args.r.now) c.requires.region)
-
-pub returns-in_err-read_places_behind-clause-stays : goal.returns-in_err-read_places_behind-clause-stays
-returns-in_err-read_places_behind-clause-stays g c = c.read_places_behind.ensures.stays
 
 pub returns-in_err-read_places_behind-clause-ends : goal.returns-in_err-read_places_behind-clause-ends
 returns-in_err-read_places_behind-clause-ends g c =
@@ -188,9 +164,3 @@ returns-clause-stays g c = stays_trans g.met.R.RegionWords.rest_trans c.read_pla
 pub returns-clause-ends : goal.returns-clause-ends
 returns-clause-ends g c =
     ends_did _ _ tt (le_trans c.read_places_behind.ensures.ends.later (le_trans c.set_pair.ensures.ends.later c.mark_words.ensures.ends.later)) (c.in_ok-mark_words.ensures.ends.cause ∙ (c.in_ok-set_pair.ensures.ends.runs (no_err tt _)) ∙ c.in_ok-read_places_behind.ensures.ends.cause)
-
-pub mark_words-requires-clause-page : goal.mark_words-requires-clause-page
-mark_words-requires-clause-page g c = c.requires.page
-
-pub mark_words-requires-clause-units : goal.mark_words-requires-clause-units
-mark_words-requires-clause-units g c = c.requires.units

@@ -34,21 +34,6 @@ returns-in_err-units-clause-stays g c = stays_trans g.met.R.RegionWords.rest_tra
 pub returns-clause-stays : goal.returns-clause-stays
 returns-clause-stays g c = stays_trans g.met.R.RegionWords.rest_trans c.read_places_behind.ensures.stays c.units_from.ensures.stays
 
-pub read_places_behind-requires-clause-ready : goal.read_places_behind-requires-clause-ready
-read_places_behind-requires-clause-ready g c = c.requires.ready
-
-pub read_places_behind-requires-clause-region : goal.read_places_behind-requires-clause-region
-read_places_behind-requires-clause-region g c = c.requires.region
-
-pub read_places_behind-requires-clause-undo : goal.read_places_behind-requires-clause-undo
-read_places_behind-requires-clause-undo g c = c.requires.undo
-
-pub returns-in_err-read_places_behind-clause-words : goal.returns-in_err-read_places_behind-clause-words
-returns-in_err-read_places_behind-clause-words g c = c.read_places_behind.ensures.words
-
-pub returns-in_err-read_places_behind-clause-stays : goal.returns-in_err-read_places_behind-clause-stays
-returns-in_err-read_places_behind-clause-stays g c = c.read_places_behind.ensures.stays
-
 pub returns-in_err-read_places_behind-clause-ends : goal.returns-in_err-read_places_behind-clause-ends
 returns-in_err-read_places_behind-clause-ends g c =
     let p = err_from_is_err_and c.from_residual.result c.from_residual.ensures.1 in
@@ -59,29 +44,11 @@ returns-in_err-read_places_behind-clause-value g c =
     let p = err_from_is_err_and c.from_residual.result c.from_residual.ensures.1 in
     rw (p.1) tt
 
-pub returns-then-not-is_start-clause-words : goal.returns-then-not-is_start-clause-words
-returns-then-not-is_start-clause-words g c = c.read_places_behind.ensures.words
-
-pub returns-then-not-is_start-clause-stays : goal.returns-then-not-is_start-clause-stays
-returns-then-not-is_start-clause-stays g c = c.read_places_behind.ensures.stays
-
 pub returns-then-not-is_start-clause-ends : goal.returns-then-not-is_start-clause-ends
 returns-then-not-is_start-clause-ends g c = record { later = c.read_places_behind.ensures.ends.later; stays = λ stopped. c.in_ok-read_places_behind.ensures.ends.cause ∙ stopped; cause = c.in_ok-read_places_behind.ensures.ends.cause }
 
-pub returns-then-end-ne0-clause-words : goal.returns-then-end-ne0-clause-words
-returns-then-end-ne0-clause-words g c = c.read_places_behind.ensures.words
-
-pub returns-then-end-ne0-clause-stays : goal.returns-then-end-ne0-clause-stays
-returns-then-end-ne0-clause-stays g c = c.read_places_behind.ensures.stays
-
 pub returns-then-end-ne0-clause-ends : goal.returns-then-end-ne0-clause-ends
 returns-then-end-ne0-clause-ends g c = record { later = c.read_places_behind.ensures.ends.later; stays = λ stopped. c.in_ok-read_places_behind.ensures.ends.cause ∙ stopped; cause = c.in_ok-read_places_behind.ensures.ends.cause }
-
-pub units_from-requires-clause-ready : goal.units_from-requires-clause-ready
-units_from-requires-clause-ready g c = c.read_places_behind.ensures.stays.ready
-
-pub units_from-requires-clause-region : goal.units_from-requires-clause-region
-units_from-requires-clause-region g c = c.read_places_behind.ensures.region
 
 pub units_from-requires-clause-heap : goal.units_from-requires-clause-heap
 units_from-requires-clause-heap g c = subst (λ (w : ℕ → ℕ). OfBlocks (live w) (w 2)) (sym c.read_places_behind.ensures.words) c.requires.heap
@@ -115,9 +82,6 @@ returns-clause-value g c = subst (λ (w : ℕ → ℕ). IsBlock (live w) (units_
 
 pub read_places_behind-requires-clause-place : goal.read_places_behind-requires-clause-place
 read_places_behind-requires-clause-place g c = omega (arith, c.requires.unit, c.requires.pages)
-
-pub units_from-requires-clause-low : goal.units_from-requires-clause-low
-units_from-requires-clause-low g c = c.reach_in_page-end.ensures.low
 
 pub units_from-requires-clause-most : goal.units_from-requires-clause-most
 units_from-requires-clause-most g c = omega (arith, c.reach_in_page-end.ensures.most, c.requires.unit)

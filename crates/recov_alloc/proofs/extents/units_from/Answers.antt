@@ -53,12 +53,6 @@ returns-clause-value g c =
     let inv = c.loop-next.invariant in
     block_by (live f) (f 2) (64 * f 2) c.args.unit c.loop-next.next c.requires.heap (omega arith) c.requires.start inv.low (omega (arith, inv.most, c.requires.pages)) inv.inside (λ s. absurd (omega (arith, s, c.loop-next-test.false, c.requires.pages)))
 
-pub read_places-requires-clause-ready : goal.read_places-requires-clause-ready
-read_places-requires-clause-ready g c = c.loop-next.invariant.stays.ready
-
-pub read_places-requires-clause-region : goal.read_places-requires-clause-region
-read_places-requires-clause-region g c = c.loop-next.invariant.region
-
 pub returns-in_err-read_places-clause-words : goal.returns-in_err-read_places-clause-words
 returns-in_err-read_places-clause-words g c = c.read_places.ensures.words ∙ c.loop-next.invariant.words
 
@@ -71,12 +65,6 @@ pub returns-in_err-read_places-clause-value : goal.returns-in_err-read_places-cl
 returns-in_err-read_places-clause-value g c =
     let p = err_from_is_err_and c.from_residual.result c.from_residual.ensures.1 in
     rw (p.1) tt
-
-pub returns-clause-words : goal.returns-clause-words
-returns-clause-words g c = c.loop-next.invariant.words
-
-pub returns-clause-stays : goal.returns-clause-stays
-returns-clause-stays g c = c.loop-next.invariant.stays
 
 pub returns-clause-ends : goal.returns-clause-ends
 returns-clause-ends g c = record { later = c.loop-next.invariant.later; stays = λ stopped. c.loop-next.invariant.running ∙ stopped; cause = c.loop-next.invariant.running }

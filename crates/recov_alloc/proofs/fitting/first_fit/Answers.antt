@@ -7,21 +7,6 @@ use Rattle.undo_list.specs.Headers.{IsHeader}
 use Rattle.recov_alloc.proofs.Outcomes.{ends_err}
 use Rattle.recov_alloc.proofs.fitting.first_fit.Goals as goal
 
-pub look_in_pages-requires-clause-ready : goal.look_in_pages-requires-clause-ready
-look_in_pages-requires-clause-ready g c = c.requires.ready
-
-pub look_in_pages-requires-clause-region : goal.look_in_pages-requires-clause-region
-look_in_pages-requires-clause-region g c = c.requires.region
-
-pub look_in_pages-requires-clause-undo : goal.look_in_pages-requires-clause-undo
-look_in_pages-requires-clause-undo g c = c.requires.header.undo
-
-pub returns-in_err-at-clause-words : goal.returns-in_err-at-clause-words
-returns-in_err-at-clause-words g c = c.look_in_pages.ensures.words
-
-pub returns-in_err-at-clause-stays : goal.returns-in_err-at-clause-stays
-returns-in_err-at-clause-stays g c = c.look_in_pages.ensures.stays
-
 pub returns-in_err-at-clause-ends : goal.returns-in_err-at-clause-ends
 returns-in_err-at-clause-ends g c =
     let p = err_from_is_err_and c.from_residual.result c.from_residual.ensures.1 in
@@ -32,26 +17,11 @@ returns-in_err-at-clause-value g c =
     let p = err_from_is_err_and c.from_residual.result c.from_residual.ensures.1 in
     rw (p.1) tt
 
-pub returns-in-Found-clause-words : goal.returns-in-Found-clause-words
-returns-in-Found-clause-words g c = c.look_in_pages.ensures.words
-
-pub returns-in-Found-clause-stays : goal.returns-in-Found-clause-stays
-returns-in-Found-clause-stays g c = c.look_in_pages.ensures.stays
-
 pub returns-in-Found-clause-ends : goal.returns-in-Found-clause-ends
 returns-in-Found-clause-ends g c = record { later = c.look_in_pages.ensures.ends.later; stays = λ stopped. c.in_ok-at.ensures.ends.cause ∙ stopped; cause = c.in_ok-at.ensures.ends.cause }
 
-pub returns-then-count-pages-clause-words : goal.returns-then-count-pages-clause-words
-returns-then-count-pages-clause-words g c = c.look_in_pages.ensures.words
-
-pub returns-then-count-pages-clause-stays : goal.returns-then-count-pages-clause-stays
-returns-then-count-pages-clause-stays g c = c.look_in_pages.ensures.stays
-
 pub returns-then-count-pages-clause-ends : goal.returns-then-count-pages-clause-ends
 returns-then-count-pages-clause-ends g c = record { later = c.look_in_pages.ensures.ends.later; stays = λ stopped. c.in_ok-at.ensures.ends.cause ∙ stopped; cause = c.in_ok-at.ensures.ends.cause }
-
-pub fit_from-requires-clause-ready : goal.fit_from-requires-clause-ready
-fit_from-requires-clause-ready g c = c.look_in_pages.ensures.stays.ready
 
 pub fit_from-requires-clause-region : goal.fit_from-requires-clause-region
 fit_from-requires-clause-region g c = region_at _ _ _ _ c.requires.region c.look_in_pages.ensures.stays.count c.look_in_pages.ensures.words

@@ -27,18 +27,6 @@ loop-page-preserved g c =
       running = c.in_ok-at.ensures.ends.cause ∙ inv.running;
     }
 
-pub look_in_pages-requires-clause-ready : goal.look_in_pages-requires-clause-ready
-look_in_pages-requires-clause-ready g c = c.loop-page.invariant.stays.ready
-
-pub look_in_pages-requires-clause-region : goal.look_in_pages-requires-clause-region
-look_in_pages-requires-clause-region g c = c.loop-page.invariant.region
-
-pub look_in_pages-requires-clause-before : goal.look_in_pages-requires-clause-before
-look_in_pages-requires-clause-before g c = c.loop-page.invariant.seen.small
-
-pub look_in_pages-requires-clause-within : goal.look_in_pages-requires-clause-within
-look_in_pages-requires-clause-within g c = c.loop-page.invariant.seen.within
-
 pub look_in_pages-requires-clause-page : goal.look_in_pages-requires-clause-page
 look_in_pages-requires-clause-page g c = omega (arith, c.min-count.ensures, c.loop-page-test.true, c.loop-page.invariant.pages, ap (λ (w : ℕ → ℕ). w 2) c.loop-page.invariant.words)
 
@@ -68,12 +56,6 @@ pub returns-in-Found-clause-ends : goal.returns-in-Found-clause-ends
 returns-in-Found-clause-ends g c =
     let running = c.in_ok-at.ensures.ends.cause ∙ c.loop-page.invariant.running in
     record { later = le_trans c.loop-page.invariant.later c.look_in_pages.ensures.ends.later; stays = λ stopped. running ∙ stopped; cause = running }
-
-pub returns-clause-words : goal.returns-clause-words
-returns-clause-words g c = c.loop-page.invariant.words
-
-pub returns-clause-stays : goal.returns-clause-stays
-returns-clause-stays g c = c.loop-page.invariant.stays
 
 pub returns-clause-ends : goal.returns-clause-ends
 returns-clause-ends g c = record { later = c.loop-page.invariant.later; stays = λ stopped. c.loop-page.invariant.running ∙ stopped; cause = c.loop-page.invariant.running }

@@ -82,25 +82,10 @@ returns-clause-value g c =
     let inv = c.loop-next.invariant in
     c.from.ensures ∙ sym (listed_all (live old) (64 * c.in_ok-pages.pages) c.loop-next.next (heap_blocks (live old) (64 * old 2)) c.loop-next.found.items (omega (arith, c.loop-next-test.false)) inv.found)
 
-pub data_pages-requires-clause-ready : goal.data_pages-requires-clause-ready
-data_pages-requires-clause-ready g c = c.requires.ready
-
-pub data_pages-requires-clause-region : goal.data_pages-requires-clause-region
-data_pages-requires-clause-region g c = c.requires.region
-
 pub returns-in_err-pages-clause-value : goal.returns-in_err-pages-clause-value
 returns-in_err-pages-clause-value g c =
     let p = err_from_is_err_and c.from_residual.result c.from_residual.ensures.1 in
     rw (p.1) tt
-
-pub returns-in_err-pages-clause-words : goal.returns-in_err-pages-clause-words
-returns-in_err-pages-clause-words g c = c.data_pages.ensures.words
-
-pub returns-in_err-pages-clause-region : goal.returns-in_err-pages-clause-region
-returns-in_err-pages-clause-region g c = c.data_pages.ensures.region
-
-pub returns-in_err-pages-clause-stays : goal.returns-in_err-pages-clause-stays
-returns-in_err-pages-clause-stays g c = c.data_pages.ensures.stays
 
 pub returns-in_err-pages-clause-ends : goal.returns-in_err-pages-clause-ends
 returns-in_err-pages-clause-ends g c =
@@ -121,12 +106,6 @@ loop-next-init g c =
       running = c.in_ok-pages.ensures.ends.cause;
     }
 
-pub word_at-requires-clause-ready : goal.word_at-requires-clause-ready
-word_at-requires-clause-ready g c = c.loop-next.invariant.stays.ready
-
-pub word_at-requires-clause-region : goal.word_at-requires-clause-region
-word_at-requires-clause-region g c = c.loop-next.invariant.region
-
 pub word_at-requires-clause-place : goal.word_at-requires-clause-place
 word_at-requires-clause-place g c = subst (λ (w : ℕ → ℕ). 2 * (c.loop-next.next / 64) + 1 < places w) (sym c.loop-next.invariant.words) (omega (arith, c.loop-next-test.true, c.loop-next.invariant.pages))
 
@@ -138,19 +117,10 @@ returns-in_err-starts-clause-value g c =
 pub returns-in_err-starts-clause-words : goal.returns-in_err-starts-clause-words
 returns-in_err-starts-clause-words g c = c.word_at.ensures.words ∙ c.loop-next.invariant.words
 
-pub returns-in_err-starts-clause-region : goal.returns-in_err-starts-clause-region
-returns-in_err-starts-clause-region g c = c.word_at.ensures.region
-
 pub returns-in_err-starts-clause-ends : goal.returns-in_err-starts-clause-ends
 returns-in_err-starts-clause-ends g c =
     let p = err_from_is_err_and c.from_residual-in_err-starts.result c.from_residual-in_err-starts.ensures.1 in
     ends_by_after _ _ _ _ _ c.loop-next.invariant.later c.loop-next.invariant.running (ends_read _ _ c.word_at.result c.from_residual-in_err-starts.result _ _ c.in_err-starts.was p.1 p.2 c.word_at.ensures.ends)
-
-pub units_from-requires-clause-ready : goal.units_from-requires-clause-ready
-units_from-requires-clause-ready g c = c.word_at.ensures.stays.ready
-
-pub units_from-requires-clause-region : goal.units_from-requires-clause-region
-units_from-requires-clause-region g c = c.word_at.ensures.region
 
 pub units_from-requires-clause-heap : goal.units_from-requires-clause-heap
 units_from-requires-clause-heap g c = subst (λ (w : ℕ → ℕ). OfBlocks (live w) (w 2)) (sym (c.word_at.ensures.words ∙ c.loop-next.invariant.words)) c.requires.heap
@@ -189,15 +159,6 @@ pub returns-in_err-push-clause-ends : goal.returns-in_err-push-clause-ends
 returns-in_err-push-clause-ends g c =
     let p = err_from_is_err_and c.from_residual-in_err-push.result c.from_residual-in_err-push.ensures.1 in
     ends_memory _ _ c.from_residual-in_err-push.result _ p.1 p.2 (le_trans c.loop-next.invariant.later (le_trans c.word_at.ensures.ends.later c.units_from.ensures.ends.later)) (c.in_ok-units.ensures.ends.cause ∙ c.in_ok-starts.ensures.ends.cause ∙ c.loop-next.invariant.running)
-
-pub returns-clause-words : goal.returns-clause-words
-returns-clause-words g c = c.loop-next.invariant.words
-
-pub returns-clause-region : goal.returns-clause-region
-returns-clause-region g c = c.loop-next.invariant.region
-
-pub returns-clause-stays : goal.returns-clause-stays
-returns-clause-stays g c = c.loop-next.invariant.stays
 
 pub returns-clause-ends : goal.returns-clause-ends
 returns-clause-ends g c = ends_listed _ _ _ c.loop-next.invariant.later c.loop-next.invariant.running

@@ -38,12 +38,6 @@ returns-clause-ok g c =
     let inv = c.loop-next.invariant in
     block_marked (live (g.R.RegionWords.words c.args.r.now)) (live (g.R.RegionWords.words c.loop-next.r)) c.args.at c.args.units c.loop-next.next (cond c.args.on 1 0) c.requires.units (omega (arith, inv.most, c.loop-next-test.false)) inv.marked
 
-pub mark_page-requires-clause-ready : goal.mark_page-requires-clause-ready
-mark_page-requires-clause-ready g c = c.loop-next.invariant.stays.ready
-
-pub mark_page-requires-clause-region : goal.mark_page-requires-clause-region
-mark_page-requires-clause-region g c = c.loop-next.invariant.region
-
 pub mark_page-requires-clause-within : goal.mark_page-requires-clause-within
 mark_page-requires-clause-within g c = subst (λ n. c.loop-next.next + c.min-run.result ≤ 64 * n) (sym c.loop-next.invariant.keeps.undoes.sizes.data_pages) (omega (arith, c.min-run.ensures, c.loop-next-test.true, c.requires.within))
 
@@ -64,14 +58,8 @@ pub returns-in_err-mark_page-clause-keeps : goal.returns-in_err-mark_page-clause
 returns-in_err-mark_page-clause-keeps g c =
     keeps_trans (g.R.RegionWords.count c.args.r.now) (g.R.RegionWords.words c.args.r.now) (g.R.RegionWords.words c.loop-next.r) (g.R.RegionWords.words c.mark_page.new.r) c.loop-next.invariant.keeps (subst (λ n. Keeps n (g.R.RegionWords.words c.loop-next.r) (g.R.RegionWords.words c.mark_page.new.r)) c.loop-next.invariant.stays.count c.mark_page.ensures.keeps)
 
-pub returns-clause-stays : goal.returns-clause-stays
-returns-clause-stays g c = c.loop-next.invariant.stays
-
 pub returns-clause-ends : goal.returns-clause-ends
 returns-clause-ends g c = record { later = c.loop-next.invariant.later; stays = λ stopped. c.loop-next.invariant.running ∙ stopped; cause = c.loop-next.invariant.running }
-
-pub returns-clause-keeps : goal.returns-clause-keeps
-returns-clause-keeps g c = c.loop-next.invariant.keeps
 
 pub mark_page-requires-clause-page : goal.mark_page-requires-clause-page
 mark_page-requires-clause-page g c = omega (arith, c.min-run.ensures)

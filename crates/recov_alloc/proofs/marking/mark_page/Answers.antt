@@ -21,18 +21,6 @@ pub returns-clause-ok : goal.returns-clause-ok
 returns-clause-ok g c =
     subst (λ w. OnOk c.mark_words.result (StoresPair (live w) (live (g.R.RegionWords.words c.mark_words.new.r)) c.args.at c.args.units (cond c.args.start 1 0) (cond c.args.on 1 0))) c.read_places_behind.ensures.words c.mark_words.ensures.ok
 
-pub read_places_behind-requires-clause-ready : goal.read_places_behind-requires-clause-ready
-read_places_behind-requires-clause-ready g c = c.requires.ready
-
-pub read_places_behind-requires-clause-region : goal.read_places_behind-requires-clause-region
-read_places_behind-requires-clause-region g c = c.requires.region
-
-pub read_places_behind-requires-clause-undo : goal.read_places_behind-requires-clause-undo
-read_places_behind-requires-clause-undo g c = c.requires.undo
-
-pub returns-in_err-read_places_behind-clause-stays : goal.returns-in_err-read_places_behind-clause-stays
-returns-in_err-read_places_behind-clause-stays g c = c.read_places_behind.ensures.stays
-
 pub returns-in_err-read_places_behind-clause-ends : goal.returns-in_err-read_places_behind-clause-ends
 returns-in_err-read_places_behind-clause-ends g c =
     let p = err_from_is_err_and c.from_residual.result c.from_residual.ensures.1 in
@@ -46,12 +34,6 @@ returns-in_err-read_places_behind-clause-ok g c =
 pub returns-in_err-read_places_behind-clause-keeps : goal.returns-in_err-read_places_behind-clause-keeps
 returns-in_err-read_places_behind-clause-keeps g c =
     subst (λ w. Keeps (g.R.RegionWords.count c.args.r.now) (g.R.RegionWords.words c.args.r.now) w) (sym c.read_places_behind.ensures.words) (keeps_refl (g.R.RegionWords.count c.args.r.now) (g.R.RegionWords.words c.args.r.now) c.requires.region)
-
-pub mark_words-requires-clause-ready : goal.mark_words-requires-clause-ready
-mark_words-requires-clause-ready g c = c.read_places_behind.ensures.stays.ready
-
-pub mark_words-requires-clause-region : goal.mark_words-requires-clause-region
-mark_words-requires-clause-region g c = c.read_places_behind.ensures.region
 
 pub mark_words-requires-clause-undo : goal.mark_words-requires-clause-undo
 mark_words-requires-clause-undo g c = c.requires.undo ∙ sym (ap (λ (w : ℕ → ℕ). w 1) c.read_places_behind.ensures.words)
@@ -68,9 +50,3 @@ returns-clause-ends g c = ends_later _ _ _ _ c.read_places_behind.ensures.ends.l
 pub returns-clause-keeps : goal.returns-clause-keeps
 returns-clause-keeps g c =
     subst (λ n. Keeps n (g.R.RegionWords.words c.args.r.now) (g.R.RegionWords.words c.mark_words.new.r)) c.read_places_behind.ensures.stays.count (subst (λ w. Keeps (g.R.RegionWords.count c.read_places_behind.new.r) w (g.R.RegionWords.words c.mark_words.new.r)) c.read_places_behind.ensures.words c.mark_words.ensures.keeps)
-
-pub mark_words-requires-clause-page : goal.mark_words-requires-clause-page
-mark_words-requires-clause-page g c = c.requires.page
-
-pub mark_words-requires-clause-units : goal.mark_words-requires-clause-units
-mark_words-requires-clause-units g c = c.requires.units

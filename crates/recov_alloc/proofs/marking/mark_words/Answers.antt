@@ -13,20 +13,5 @@ returns-clause-ok g c =
     let stored = pair_stored (live (f c.args.r.now)) (live (f c.args.r.now)) (live (f c.put_covered_run.new.r)) c.args.at c.args.units _ (cond c.args.on 1 0) _ _ c.args.words.now refl c.requires.words c.with_bits-used.ensures start_bits in
     on_word c.put_covered_run.result c.uncounted.result _ _ c.uncounted.ensures (λ (h : Puts (g.R.RegionWords.count c.args.r.now) (f c.args.r.now) (f c.put_covered_run.new.r) _ _ _). stored h.present) c.put_covered_run.ensures.ok
 
-pub put_covered_run-requires-clause-ready : goal.put_covered_run-requires-clause-ready
-put_covered_run-requires-clause-ready g c = c.requires.ready
-
-pub put_covered_run-requires-clause-region : goal.put_covered_run-requires-clause-region
-put_covered_run-requires-clause-region g c = c.requires.region
-
-pub put_covered_run-requires-clause-undo : goal.put_covered_run-requires-clause-undo
-put_covered_run-requires-clause-undo g c = c.requires.undo
-
-pub returns-clause-keeps : goal.returns-clause-keeps
-returns-clause-keeps g c = c.put_covered_run.ensures.front.2.keeps
-
-pub returns-clause-stays : goal.returns-clause-stays
-returns-clause-stays g c = c.put_covered_run.ensures.stays
-
 pub returns-clause-ends : goal.returns-clause-ends
 returns-clause-ends g c = word_ends _ _ c.put_covered_run.result c.uncounted.result c.uncounted.ensures c.put_covered_run.ensures.ends

@@ -33,12 +33,6 @@ loop-n-preserved g c =
 pub returns-clause-list : goal.returns-clause-list
 returns-clause-list g c = listed_all c.args.shape.now (g.V.Blocks.seen c.args.v.now).words c.loop-n.n c.loop-n.regions.items c.loop-n.auto.n-end c.loop-n-test.false c.loop-n.invariant.listed
 
-pub is_region-requires-clause-sound : goal.is_region-requires-clause-sound
-is_region-requires-clause-sound g c = c.loop-n.invariant.sound
-
-pub is_region-requires-clause-shape : goal.is_region-requires-clause-shape
-is_region-requires-clause-shape g c = c.loop-n.invariant.shape
-
 pub is_region-requires-clause-ino : goal.is_region-requires-clause-ino
 is_region-requires-clause-ino g c = nth_ino c.args.shape.now c.loop-n.n c.loop-n-test.true
 
@@ -63,17 +57,11 @@ returns-in_err-is_region-clause-list g c = IfOk-from_err c.from_residual.result 
 pub returns-in_err-is_region-clause-looks : goal.returns-in_err-is_region-clause-looks
 returns-in_err-is_region-clause-looks g c = looks_trans _ _ _ c.loop-n.invariant.looks c.is_region.ensures.looks
 
-pub returns-in_err-is_region-clause-shape : goal.returns-in_err-is_region-clause-shape
-returns-in_err-is_region-clause-shape g c = c.is_region.ensures.shape
-
 pub returns-in_err-is_region-clause-caches : goal.returns-in_err-is_region-clause-caches
 returns-in_err-is_region-clause-caches g c = caches_by_trans _ _ _ _ c.loop-n.invariant.caches c.is_region.ensures.caches
 
 pub returns-in_err-is_region-clause-passes : goal.returns-in_err-is_region-clause-passes
 returns-in_err-is_region-clause-passes g c = g.met.V.Blocks.passes_trans _ _ _ c.loop-n.invariant.passes c.is_region.ensures.passes
-
-pub returns-in_err-is_region-clause-sound : goal.returns-in_err-is_region-clause-sound
-returns-in_err-is_region-clause-sound g c = c.is_region.ensures.sound
 
 pub returns-in_err-is_region-clause-ends : goal.returns-in_err-is_region-clause-ends
 returns-in_err-is_region-clause-ends g c =
@@ -86,37 +74,16 @@ returns-in_err-push-clause-list g c = IfOk-from_err c.from_residual-in_err-push.
 pub returns-in_err-push-clause-looks : goal.returns-in_err-push-clause-looks
 returns-in_err-push-clause-looks g c = looks_trans _ _ _ c.loop-n.invariant.looks c.is_region.ensures.looks
 
-pub returns-in_err-push-clause-shape : goal.returns-in_err-push-clause-shape
-returns-in_err-push-clause-shape g c = c.is_region.ensures.shape
-
 pub returns-in_err-push-clause-caches : goal.returns-in_err-push-clause-caches
 returns-in_err-push-clause-caches g c = caches_by_trans _ _ _ _ c.loop-n.invariant.caches c.is_region.ensures.caches
 
 pub returns-in_err-push-clause-passes : goal.returns-in_err-push-clause-passes
 returns-in_err-push-clause-passes g c = g.met.V.Blocks.passes_trans _ _ _ c.loop-n.invariant.passes c.is_region.ensures.passes
 
-pub returns-in_err-push-clause-sound : goal.returns-in_err-push-clause-sound
-returns-in_err-push-clause-sound g c = c.is_region.ensures.sound
-
 pub returns-in_err-push-clause-ends : goal.returns-in_err-push-clause-ends
 returns-in_err-push-clause-ends g c =
     let p = err_from_is_err_and c.from_residual-in_err-push.result c.from_residual-in_err-push.ensures.1 in
     ends_by_after _ _ _ _ _ c.loop-n.invariant.later c.loop-n.invariant.running (ends_memory _ _ c.from_residual-in_err-push.result _ p.1 p.2 c.is_region.ensures.ends.later c.in_ok-is_region.ensures.ends.cause)
 
-pub returns-clause-looks : goal.returns-clause-looks
-returns-clause-looks g c = c.loop-n.invariant.looks
-
-pub returns-clause-shape : goal.returns-clause-shape
-returns-clause-shape g c = c.loop-n.invariant.shape
-
-pub returns-clause-caches : goal.returns-clause-caches
-returns-clause-caches g c = c.loop-n.invariant.caches
-
-pub returns-clause-passes : goal.returns-clause-passes
-returns-clause-passes g c = c.loop-n.invariant.passes
-
 pub returns-clause-ends : goal.returns-clause-ends
 returns-clause-ends g c = ends_listed _ _ _ c.loop-n.invariant.later c.loop-n.invariant.running
-
-pub returns-clause-sound : goal.returns-clause-sound
-returns-clause-sound g c = c.loop-n.invariant.sound

@@ -80,21 +80,6 @@ returns-clause-goes g c = c.point.ensures.goes then c.recover.ensures.stays.goes
 pub returns-clause-ends : goal.returns-clause-ends
 returns-clause-ends g c = ends_later _ _ _ c.recover.result c.point.ensures.ends.later (ran_ok _ _ c.point.result _ c.in_ok-point.was c.point.ensures.ends) c.recover.ensures.ends
 
-pub returns-clause-sound : goal.returns-clause-sound
-returns-clause-sound g c = c.recover.ensures.stays.ready.0
-
-pub point-requires-clause-sound : goal.point-requires-clause-sound
-point-requires-clause-sound g c = c.requires.sound
-
-pub point-requires-clause-ready : goal.point-requires-clause-ready
-point-requires-clause-ready g c = c.requires.ready
-
-pub point-requires-clause-ino : goal.point-requires-clause-ino
-point-requires-clause-ino g c = c.requires.ino
-
-pub point-requires-clause-region : goal.point-requires-clause-region
-point-requires-clause-region g c = c.requires.region
-
 pub returns-in_err-point-clause-reads : goal.returns-in_err-point-clause-reads
 returns-in_err-point-clause-reads g c = λ s reads. reads_still c.args.view.now.shape _ _ s c.point.ensures.words reads
 
@@ -109,12 +94,3 @@ returns-in_err-point-clause-rest g c = rest_same c.args.view.now.shape c.args.i.
 
 pub returns-in_err-point-clause-ready : goal.returns-in_err-point-clause-ready
 returns-in_err-point-clause-ready g c = subst (λ (sh : VolumeShape). Ready sh (g.V.Blocks.seen c.point.new.self.v) (g.V.Volume.kept c.point.new.self.v)) c.point.ensures.shape c.point.ensures.ready
-
-pub returns-in_err-point-clause-shape : goal.returns-in_err-point-clause-shape
-returns-in_err-point-clause-shape g c = c.point.ensures.shape
-
-pub returns-in_err-point-clause-goes : goal.returns-in_err-point-clause-goes
-returns-in_err-point-clause-goes g c = c.point.ensures.goes
-
-pub returns-in_err-point-clause-sound : goal.returns-in_err-point-clause-sound
-returns-in_err-point-clause-sound g c = c.point.ensures.sound

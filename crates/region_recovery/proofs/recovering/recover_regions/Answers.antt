@@ -79,9 +79,6 @@ returns-clause-recovered g c =
     let f = (g.V.Blocks.seen c.args.view.now.v).words in
     recovered_all shape f (g.V.Blocks.seen c.loop-n.view.v).words c.loop-n.n c.loop-n.undone (omega (arith, c.loop-n-test.false, as_long shape f c.args.regions.now c.requires.regions)) c.loop-n.invariant.walk
 
-pub recover_region-requires-clause-sound : goal.recover_region-requires-clause-sound
-recover_region-requires-clause-sound g c = c.loop-n.invariant.sound
-
 pub recover_region-requires-clause-ready : goal.recover_region-requires-clause-ready
 recover_region-requires-clause-ready g c = subst (λ (sh : VolumeShape). Ready sh (g.V.Blocks.seen c.loop-n.view.v) (g.V.Volume.kept c.loop-n.view.v)) (sym c.loop-n.invariant.shape) c.loop-n.invariant.ready
 
@@ -113,12 +110,6 @@ returns-in_err-recover_region-clause-ready g c = subst (λ (sh : VolumeShape). R
 pub returns-in_err-recover_region-clause-shape : goal.returns-in_err-recover_region-clause-shape
 returns-in_err-recover_region-clause-shape g c = c.recover_region.ensures.shape ∙ c.loop-n.invariant.shape
 
-pub returns-in_err-recover_region-clause-sound : goal.returns-in_err-recover_region-clause-sound
-returns-in_err-recover_region-clause-sound g c = c.recover_region.ensures.sound
-
-pub returns-clause-reads : goal.returns-clause-reads
-returns-clause-reads g c = c.loop-n.invariant.walk.states
-
 pub returns-clause-count : goal.returns-clause-count
 returns-clause-count g c =
     let shape = c.args.view.now.shape in
@@ -128,17 +119,5 @@ returns-clause-count g c =
 pub returns-clause-none : goal.returns-clause-none
 returns-clause-none g c = λ none. c.loop-n.invariant.none (no_turns c.args.view.now.shape _ c.args.regions.now c.loop-n.n c.requires.regions none c.loop-n.auto.n-end)
 
-pub returns-clause-ready : goal.returns-clause-ready
-returns-clause-ready g c = c.loop-n.invariant.ready
-
-pub returns-clause-shape : goal.returns-clause-shape
-returns-clause-shape g c = c.loop-n.invariant.shape
-
-pub returns-clause-goes : goal.returns-clause-goes
-returns-clause-goes g c = c.loop-n.invariant.goes
-
 pub returns-clause-ends : goal.returns-clause-ends
 returns-clause-ends g c = ends_none _ _ _ c.loop-n.invariant.later c.loop-n.invariant.running
-
-pub returns-clause-sound : goal.returns-clause-sound
-returns-clause-sound g c = c.loop-n.invariant.sound

@@ -13,9 +13,6 @@ overflow_cast-undo g c = omega (arith, g.met.R.RegionWords.small c.args.r.now c.
 pub returns-in_err-undo-clause-region : goal.returns-in_err-undo-clause-region
 returns-in_err-undo-clause-region g c = region_at _ _ _ _ c.requires.region c.word.ensures.stays.count c.word.ensures.words
 
-pub put_covered_run-requires-clause-ready : goal.put_covered_run-requires-clause-ready
-put_covered_run-requires-clause-ready g c = c.word.ensures.stays.ready
-
 pub put_covered_run-requires-clause-region : goal.put_covered_run-requires-clause-region
 put_covered_run-requires-clause-region g c = region_at _ _ _ _ c.requires.region c.word.ensures.stays.count c.word.ensures.words
 
@@ -27,9 +24,6 @@ put_covered_run-requires-clause-place g c = subst (λ (w : ℕ → ℕ). c.args.
 
 pub put_covered_run-requires-clause-covered : goal.put_covered_run-requires-clause-covered
 put_covered_run-requires-clause-covered g c = subst (λ (w : ℕ → ℕ). CoversAll (undo_records w) c.args.place 1) (sym c.word.ensures.words) c.requires.covered
-
-pub returns-clause-region : goal.returns-clause-region
-returns-clause-region g c = c.put_covered_run.ensures.region
 
 pub returns-clause-stays : goal.returns-clause-stays
 returns-clause-stays g c = stays_trans g.met.R.RegionWords.rest_trans c.word.ensures.stays c.put_covered_run.ensures.stays

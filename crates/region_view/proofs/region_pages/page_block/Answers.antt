@@ -12,41 +12,17 @@ block_of-requires-clause-ino g c = (page_owned c.args.shape.now _ c.args.i.0 c.a
 pub block_of-requires-clause-page : goal.block_of-requires-clause-page
 block_of-requires-clause-page g c = (page_owned c.args.shape.now _ c.args.i.0 c.args.at c.requires.can.mapped c.requires.region c.requires.place).slot
 
-pub block_of-requires-clause-sound : goal.block_of-requires-clause-sound
-block_of-requires-clause-sound g c = c.requires.sound
-
-pub returns-then-page-lt-DIRECT_PAGES-clause-words : goal.returns-then-page-lt-DIRECT_PAGES-clause-words
-returns-then-page-lt-DIRECT_PAGES-clause-words g c = refl
-
 pub returns-then-page-lt-DIRECT_PAGES-clause-passes : goal.returns-then-page-lt-DIRECT_PAGES-clause-passes
 returns-then-page-lt-DIRECT_PAGES-clause-passes g c = g.met.V.Blocks.passes_refl _
 
 pub returns-then-page-lt-DIRECT_PAGES-clause-ends : goal.returns-then-page-lt-DIRECT_PAGES-clause-ends
 returns-then-page-lt-DIRECT_PAGES-clause-ends g c = vol_still _ _
 
-pub returns-then-page-lt-DIRECT_PAGES-clause-sound : goal.returns-then-page-lt-DIRECT_PAGES-clause-sound
-returns-then-page-lt-DIRECT_PAGES-clause-sound g c = c.requires.sound
-
 pub returns-clause-page : goal.returns-clause-page
 returns-clause-page g c = word_pages c.block_of.result c.args.shape.now _ _ c.args.i.0 c.args.at c.requires.can.mapped c.requires.region c.requires.place c.block_of.ensures.looks.looks.words c.block_of.ensures.value
 
-pub returns-clause-words : goal.returns-clause-words
-returns-clause-words g c = c.block_of.ensures.looks.looks.words
-
-pub returns-clause-passes : goal.returns-clause-passes
-returns-clause-passes g c = c.block_of.ensures.passes
-
-pub returns-clause-ends : goal.returns-clause-ends
-returns-clause-ends g c = c.block_of.ensures.ends
-
-pub returns-clause-sound : goal.returns-clause-sound
-returns-clause-sound g c = c.block_of.ensures.sound
-
 pub block_of-requires-clause-can : goal.block_of-requires-clause-can
 block_of-requires-clause-can g c = can_look_up c.args.shape.now (g.V.Blocks.seen c.args.v.now) c.requires.can.has_shape c.requires.can.mapped c.requires.can.named
-
-pub returns-then-page-lt-DIRECT_PAGES-clause-can : goal.returns-then-page-lt-DIRECT_PAGES-clause-can
-returns-then-page-lt-DIRECT_PAGES-clause-can g c = c.requires.can
 
 pub returns-clause-can : goal.returns-clause-can
 returns-clause-can g c = can_looked c.args.shape.now _ _ c.requires.can c.block_of.ensures.looks

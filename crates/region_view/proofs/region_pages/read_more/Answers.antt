@@ -3,18 +3,6 @@ use Rattle.node_pages.proofs.EndsOn.{ends_vol, ends_vol_ok, if_err}
 use Rattle.region_view.proofs.RegionParts.{read_end, read_place, read_some, read_within, words_then, written_length}
 use Rattle.region_view.proofs.region_pages.read_more.Goals as goal
 
-pub read_part-requires-clause-sound : goal.read_part-requires-clause-sound
-read_part-requires-clause-sound g c = c.requires.sound
-
-pub read_part-requires-clause-can : goal.read_part-requires-clause-can
-read_part-requires-clause-can g c = c.requires.can
-
-pub read_part-requires-clause-region : goal.read_part-requires-clause-region
-read_part-requires-clause-region g c = c.requires.region
-
-pub read_part-requires-clause-inode : goal.read_part-requires-clause-inode
-read_part-requires-clause-inode g c = c.requires.inode
-
 pub read_part-requires-clause-some : goal.read_part-requires-clause-some
 read_part-requires-clause-some g c = read_some c.args.into.now c.args.done c.in_page.result c.requires.some c.in_page.ensures.some c.in_page.ensures.most
 
@@ -30,22 +18,10 @@ returns-in_err-read_part-clause-more g c = if_err c.from_residual.result _ c.fro
 pub returns-in_err-read_part-clause-len : goal.returns-in_err-read_part-clause-len
 returns-in_err-read_part-clause-len g c = written_length c.args.into.now _ c.args.done c.in_page.result (read_end c.args.done c.in_page.result _ c.requires.some c.in_page.ensures.some c.in_page.ensures.most).1 c.read_part.ensures.len
 
-pub returns-in_err-read_part-clause-words : goal.returns-in_err-read_part-clause-words
-returns-in_err-read_part-clause-words g c = c.read_part.ensures.words
-
-pub returns-in_err-read_part-clause-can : goal.returns-in_err-read_part-clause-can
-returns-in_err-read_part-clause-can g c = c.read_part.ensures.can
-
-pub returns-in_err-read_part-clause-passes : goal.returns-in_err-read_part-clause-passes
-returns-in_err-read_part-clause-passes g c = c.read_part.ensures.passes
-
 pub returns-in_err-read_part-clause-ends : goal.returns-in_err-read_part-clause-ends
 returns-in_err-read_part-clause-ends g c =
     let p = err_from_is_err_and c.from_residual.result c.from_residual.ensures.1 in
     ends_vol _ _ c.read_part.result c.from_residual.result _ p.0 c.in_err-read_part.was p.1 p.2 c.read_part.ensures.ends
-
-pub returns-in_err-read_part-clause-sound : goal.returns-in_err-read_part-clause-sound
-returns-in_err-read_part-clause-sound g c = c.read_part.ensures.sound
 
 pub returns-clause-more : goal.returns-clause-more
 returns-clause-more g c =
@@ -55,17 +31,5 @@ returns-clause-more g c =
 pub returns-clause-len : goal.returns-clause-len
 returns-clause-len g c = written_length c.args.into.now _ c.args.done c.in_page.result (read_end c.args.done c.in_page.result _ c.requires.some c.in_page.ensures.some c.in_page.ensures.most).1 c.read_part.ensures.len
 
-pub returns-clause-words : goal.returns-clause-words
-returns-clause-words g c = c.read_part.ensures.words
-
-pub returns-clause-can : goal.returns-clause-can
-returns-clause-can g c = c.read_part.ensures.can
-
-pub returns-clause-passes : goal.returns-clause-passes
-returns-clause-passes g c = c.read_part.ensures.passes
-
 pub returns-clause-ends : goal.returns-clause-ends
 returns-clause-ends g c = ends_vol_ok _ _ _ c.in_ok-read_part.ensures.ends.later c.in_ok-read_part.ensures.ends.cause
-
-pub returns-clause-sound : goal.returns-clause-sound
-returns-clause-sound g c = c.read_part.ensures.sound

@@ -1,27 +1,12 @@
-use Rattle.region_view.proofs.Common.{refl, ◌∙◌, err_from_is_err_and}
+use Rattle.region_view.proofs.Common.{◌∙◌, err_from_is_err_and}
 use Rattle.node_pages.proofs.EndsOn.{ends_vol, if_err}
 use Rattle.rio_base.proofs.BlockRules.{ends_later}
 use Rattle.region_view.proofs.WordsRead.{first_within, run_span, words_read}
 use Rattle.region_view.proofs.RegionPlaces.{can_name, can_page}
 use Rattle.region_view.proofs.region_pages.read_part.Goals as goal
 
-pub page_block-requires-clause-sound : goal.page_block-requires-clause-sound
-page_block-requires-clause-sound g c = c.requires.sound
-
-pub page_block-requires-clause-can : goal.page_block-requires-clause-can
-page_block-requires-clause-can g c = c.requires.can
-
-pub page_block-requires-clause-region : goal.page_block-requires-clause-region
-page_block-requires-clause-region g c = c.requires.region
-
-pub page_block-requires-clause-inode : goal.page_block-requires-clause-inode
-page_block-requires-clause-inode g c = c.requires.inode
-
 pub page_block-requires-clause-place : goal.page_block-requires-clause-place
 page_block-requires-clause-place g c = first_within c.args.at _ _ c.requires.some c.requires.place
-
-pub read_run-requires-clause-sound : goal.read_run-requires-clause-sound
-read_run-requires-clause-sound g c = c.page_block.ensures.sound
 
 pub read_run-requires-clause-place : goal.read_run-requires-clause-place
 read_run-requires-clause-place g c = run_span c.args.shape.now _ c.args.i.0 c.args.at c.in_ok-b.b.0 _ c.page_block.ensures.can c.in_ok-b.ensures.page c.requires.within
@@ -32,31 +17,13 @@ read_run-requires-clause-name g c = can_name c.args.shape.now _ c.args.i.0 c.arg
 pub returns-in_err-b-clause-value : goal.returns-in_err-b-clause-value
 returns-in_err-b-clause-value g c = if_err c.from_residual.result _ c.from_residual.ensures.0
 
-pub returns-in_err-b-clause-len : goal.returns-in_err-b-clause-len
-returns-in_err-b-clause-len g c = refl
-
-pub returns-in_err-b-clause-words : goal.returns-in_err-b-clause-words
-returns-in_err-b-clause-words g c = c.page_block.ensures.words
-
-pub returns-in_err-b-clause-can : goal.returns-in_err-b-clause-can
-returns-in_err-b-clause-can g c = c.page_block.ensures.can
-
-pub returns-in_err-b-clause-passes : goal.returns-in_err-b-clause-passes
-returns-in_err-b-clause-passes g c = c.page_block.ensures.passes
-
 pub returns-in_err-b-clause-ends : goal.returns-in_err-b-clause-ends
 returns-in_err-b-clause-ends g c =
     let p = err_from_is_err_and c.from_residual.result c.from_residual.ensures.1 in
     ends_vol _ _ c.page_block.result c.from_residual.result _ p.0 c.in_err-b.was p.1 p.2 c.page_block.ensures.ends
 
-pub returns-in_err-b-clause-sound : goal.returns-in_err-b-clause-sound
-returns-in_err-b-clause-sound g c = c.page_block.ensures.sound
-
 pub returns-clause-value : goal.returns-clause-value
 returns-clause-value g c = words_read c.read_run.result c.args.shape.now _ (g.V.Blocks.seen c.page_block.new.v) c.args.i.0 c.args.at c.in_ok-b.b.0 _ _ c.in_ok-b.ensures.page c.page_block.ensures.words c.requires.within c.requires.place c.read_run.ensures.words
-
-pub returns-clause-len : goal.returns-clause-len
-returns-clause-len g c = c.read_run.ensures.len
 
 pub returns-clause-words : goal.returns-clause-words
 returns-clause-words g c = c.read_run.ensures.looks.words ∙ c.page_block.ensures.words
@@ -66,9 +33,6 @@ returns-clause-passes g c = g.met.V.Blocks.passes_trans _ _ _ c.page_block.ensur
 
 pub returns-clause-ends : goal.returns-clause-ends
 returns-clause-ends g c = ends_later _ _ _ c.read_run.result c.in_ok-b.ensures.ends.later c.in_ok-b.ensures.ends.cause c.read_run.ensures.ends
-
-pub returns-clause-sound : goal.returns-clause-sound
-returns-clause-sound g c = c.read_run.ensures.sound
 
 pub returns-clause-can : goal.returns-clause-can
 returns-clause-can g c = can_page c.args.shape.now (g.V.Blocks.seen c.page_block.new.v) _ c.args.i.0 c.args.at c.in_ok-b.b.0 _ c.page_block.ensures.can c.in_ok-b.ensures.page c.page_name.ensures c.read_run.ensures.looks c.read_run.ensures.caches

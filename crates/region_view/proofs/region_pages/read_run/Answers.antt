@@ -35,12 +35,6 @@ loop-done-preserved g c =
       sound = call.sound;
     }
 
-pub read_more-requires-clause-sound : goal.read_more-requires-clause-sound
-read_more-requires-clause-sound g c = c.loop-done.invariant.sound
-
-pub read_more-requires-clause-can : goal.read_more-requires-clause-can
-read_more-requires-clause-can g c = c.loop-done.invariant.can
-
 pub read_more-requires-clause-region : goal.read_more-requires-clause-region
 read_more-requires-clause-region g c = subst (λ f. (held_of c.args.shape.now f c.args.i.0).kind ≡ 3) (sym c.loop-done.invariant.words) c.requires.region
 
@@ -68,9 +62,6 @@ returns-in_err-done-clause-len g c = c.read_more.ensures.len ∙ c.loop-done.inv
 pub returns-in_err-done-clause-words : goal.returns-in_err-done-clause-words
 returns-in_err-done-clause-words g c = c.read_more.ensures.words ∙ c.loop-done.invariant.words
 
-pub returns-in_err-done-clause-can : goal.returns-in_err-done-clause-can
-returns-in_err-done-clause-can g c = c.read_more.ensures.can
-
 pub returns-in_err-done-clause-passes : goal.returns-in_err-done-clause-passes
 returns-in_err-done-clause-passes g c = g.met.V.Blocks.passes_trans _ _ _ c.loop-done.invariant.passes c.read_more.ensures.passes
 
@@ -79,28 +70,10 @@ returns-in_err-done-clause-ends g c =
     let p = err_from_is_err_and c.from_residual.result c.from_residual.ensures.1 in
     ends_later _ _ _ c.from_residual.result c.loop-done.invariant.later c.loop-done.invariant.running (ends_vol _ _ c.read_more.result c.from_residual.result _ p.0 c.in_err-done.was p.1 p.2 c.read_more.ensures.ends)
 
-pub returns-in_err-done-clause-sound : goal.returns-in_err-done-clause-sound
-returns-in_err-done-clause-sound g c = c.read_more.ensures.sound
-
 pub returns-clause-value : goal.returns-clause-value
 returns-clause-value g c =
     let inv = c.loop-done.invariant in
     subst (λ n. AreWords (held_of c.args.shape.now (g.V.Blocks.seen c.args.v.now).words c.args.i.0).word c.args.at n c.loop-done.into) (omega (arith, c.loop-done-test.false, inv.within, inv.len)) inv.value
 
-pub returns-clause-len : goal.returns-clause-len
-returns-clause-len g c = c.loop-done.invariant.len
-
-pub returns-clause-words : goal.returns-clause-words
-returns-clause-words g c = c.loop-done.invariant.words
-
-pub returns-clause-can : goal.returns-clause-can
-returns-clause-can g c = c.loop-done.invariant.can
-
-pub returns-clause-passes : goal.returns-clause-passes
-returns-clause-passes g c = c.loop-done.invariant.passes
-
 pub returns-clause-ends : goal.returns-clause-ends
 returns-clause-ends g c = ends_vol_ok _ _ _ c.loop-done.invariant.later c.loop-done.invariant.running
-
-pub returns-clause-sound : goal.returns-clause-sound
-returns-clause-sound g c = c.loop-done.invariant.sound

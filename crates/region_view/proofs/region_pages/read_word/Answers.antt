@@ -5,21 +5,6 @@ use Rattle.region_view.proofs.WordsRead.{value_as, word_at}
 use Rattle.region_view.proofs.RegionPlaces.{can_name, can_page, page_below, reads_ready, ready_read}
 use Rattle.region_view.proofs.region_pages.read_word.Goals as goal
 
-pub page_block-requires-clause-sound : goal.page_block-requires-clause-sound
-page_block-requires-clause-sound g c = c.requires.sound
-
-pub page_block-requires-clause-region : goal.page_block-requires-clause-region
-page_block-requires-clause-region g c = c.requires.region
-
-pub page_block-requires-clause-inode : goal.page_block-requires-clause-inode
-page_block-requires-clause-inode g c = c.requires.inode
-
-pub page_block-requires-clause-place : goal.page_block-requires-clause-place
-page_block-requires-clause-place g c = c.requires.place
-
-pub word-requires-clause-sound : goal.word-requires-clause-sound
-word-requires-clause-sound g c = c.page_block.ensures.sound
-
 pub word-requires-clause-place : goal.word-requires-clause-place
 word-requires-clause-place g c = record {
   block = page_below c.args.shape.now _ c.args.i.0 c.args.at c.in_ok-b.b.0 c.page_block.ensures.can c.in_ok-b.ensures.page;
@@ -32,19 +17,10 @@ word-requires-clause-name g c = can_name c.args.shape.now _ c.args.i.0 c.args.at
 pub returns-in_err-b-clause-value : goal.returns-in_err-b-clause-value
 returns-in_err-b-clause-value g c = if_err c.from_residual.result _ c.from_residual.ensures.0
 
-pub returns-in_err-b-clause-words : goal.returns-in_err-b-clause-words
-returns-in_err-b-clause-words g c = c.page_block.ensures.words
-
-pub returns-in_err-b-clause-passes : goal.returns-in_err-b-clause-passes
-returns-in_err-b-clause-passes g c = c.page_block.ensures.passes
-
 pub returns-in_err-b-clause-ends : goal.returns-in_err-b-clause-ends
 returns-in_err-b-clause-ends g c =
     let p = err_from_is_err_and c.from_residual.result c.from_residual.ensures.1 in
     ends_vol _ _ c.page_block.result c.from_residual.result _ p.0 c.in_err-b.was p.1 p.2 c.page_block.ensures.ends
-
-pub returns-in_err-b-clause-sound : goal.returns-in_err-b-clause-sound
-returns-in_err-b-clause-sound g c = c.page_block.ensures.sound
 
 pub returns-clause-value : goal.returns-clause-value
 returns-clause-value g c = value_as c.word.result _ _ (word_at c.args.shape.now _ (g.V.Blocks.seen c.page_block.new.v) c.args.i.0 c.args.at c.in_ok-b.b.0 c.in_ok-b.ensures.page c.page_block.ensures.words) c.word.ensures.value
@@ -57,9 +33,6 @@ returns-clause-passes g c = g.met.V.Blocks.passes_trans _ _ _ c.page_block.ensur
 
 pub returns-clause-ends : goal.returns-clause-ends
 returns-clause-ends g c = ends_later _ _ _ c.word.result c.in_ok-b.ensures.ends.later c.in_ok-b.ensures.ends.cause c.word.ensures.ends
-
-pub returns-clause-sound : goal.returns-clause-sound
-returns-clause-sound g c = c.word.ensures.sound
 
 pub page_block-requires-clause-can : goal.page_block-requires-clause-can
 page_block-requires-clause-can g c = reads_ready c.args.shape.now _ _ c.requires.ready

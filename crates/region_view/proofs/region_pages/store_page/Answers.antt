@@ -30,18 +30,6 @@ returns-in-Err-Fault-clause-ends g c = ends_fault _ _ _ _ _ c.in-Err-Fault.field
 pub returns-in-Err-Stopped-clause-ends : goal.returns-in-Err-Stopped-clause-ends
 returns-in-Err-Stopped-clause-ends g c = ends_stop _ _ _ _ c.in-Err-Stopped.field-0-is (le_refl _) refl c.in-Err-Stopped.ensures.ends
 
-pub store_part-requires-clause-sound : goal.store_part-requires-clause-sound
-store_part-requires-clause-sound g c = c.requires.sound
-
-pub store_part-requires-clause-ready : goal.store_part-requires-clause-ready
-store_part-requires-clause-ready g c = c.requires.ready
-
-pub store_part-requires-clause-region : goal.store_part-requires-clause-region
-store_part-requires-clause-region g c = c.requires.region
-
-pub store_part-requires-clause-inode : goal.store_part-requires-clause-inode
-store_part-requires-clause-inode g c = c.requires.inode
-
 pub store_part-requires-clause-some : goal.store_part-requires-clause-some
 store_part-requires-clause-some g c = part_some c.args.from.now _ c.in_page-count.ensures.most (c.in_page-count.ensures.some c.requires.some)
 
@@ -51,53 +39,5 @@ store_part-requires-clause-within g c = part_within c.args.at c.args.from.now _ 
 pub store_part-requires-clause-place : goal.store_part-requires-clause-place
 store_part-requires-clause-place g c = part_place c.args.at c.args.from.now _ _ c.requires.place
 
-pub returns-in-Ok-clause-fault : goal.returns-in-Ok-clause-fault
-returns-in-Ok-clause-fault g c = tt
-
-pub returns-in-Ok-clause-rest : goal.returns-in-Ok-clause-rest
-returns-in-Ok-clause-rest g c = c.store_part.ensures.rest
-
-pub returns-in-Ok-clause-ready : goal.returns-in-Ok-clause-ready
-returns-in-Ok-clause-ready g c = c.store_part.ensures.ready
-
-pub returns-in-Ok-clause-goes : goal.returns-in-Ok-clause-goes
-returns-in-Ok-clause-goes g c = c.store_part.ensures.goes
-
 pub returns-in-Ok-clause-ends : goal.returns-in-Ok-clause-ends
 returns-in-Ok-clause-ends g c = run_ended _ _ _ _ c.in-Ok.ensures.ends
-
-pub returns-in-Ok-clause-sound : goal.returns-in-Ok-clause-sound
-returns-in-Ok-clause-sound g c = c.store_part.ensures.sound
-
-pub returns-in-Err-Fault-clause-ok : goal.returns-in-Err-Fault-clause-ok
-returns-in-Err-Fault-clause-ok g c = tt
-
-pub returns-in-Err-Fault-clause-rest : goal.returns-in-Err-Fault-clause-rest
-returns-in-Err-Fault-clause-rest g c = c.store_part.ensures.rest
-
-pub returns-in-Err-Fault-clause-ready : goal.returns-in-Err-Fault-clause-ready
-returns-in-Err-Fault-clause-ready g c = c.store_part.ensures.ready
-
-pub returns-in-Err-Fault-clause-goes : goal.returns-in-Err-Fault-clause-goes
-returns-in-Err-Fault-clause-goes g c = c.store_part.ensures.goes
-
-pub returns-in-Err-Fault-clause-sound : goal.returns-in-Err-Fault-clause-sound
-returns-in-Err-Fault-clause-sound g c = c.store_part.ensures.sound
-
-pub returns-in-Err-Stopped-clause-ok : goal.returns-in-Err-Stopped-clause-ok
-returns-in-Err-Stopped-clause-ok g c = tt
-
-pub returns-in-Err-Stopped-clause-fault : goal.returns-in-Err-Stopped-clause-fault
-returns-in-Err-Stopped-clause-fault g c = tt
-
-pub returns-in-Err-Stopped-clause-rest : goal.returns-in-Err-Stopped-clause-rest
-returns-in-Err-Stopped-clause-rest g c = c.store_part.ensures.rest
-
-pub returns-in-Err-Stopped-clause-ready : goal.returns-in-Err-Stopped-clause-ready
-returns-in-Err-Stopped-clause-ready g c = c.store_part.ensures.ready
-
-pub returns-in-Err-Stopped-clause-goes : goal.returns-in-Err-Stopped-clause-goes
-returns-in-Err-Stopped-clause-goes g c = c.store_part.ensures.goes
-
-pub returns-in-Err-Stopped-clause-sound : goal.returns-in-Err-Stopped-clause-sound
-returns-in-Err-Stopped-clause-sound g c = c.store_part.ensures.sound

@@ -7,20 +7,8 @@ use Rattle.region_view.proofs.RegionPlaces.{can_name, ready_read, reads_ready, h
 use Rattle.region_view.proofs.RunEnds.{fault_as, ok_as}
 use Rattle.region_view.proofs.region_pages.store_part.Goals as goal
 
-pub page_block-requires-clause-sound : goal.page_block-requires-clause-sound
-page_block-requires-clause-sound g c = c.requires.sound
-
-pub page_block-requires-clause-region : goal.page_block-requires-clause-region
-page_block-requires-clause-region g c = c.requires.region
-
-pub page_block-requires-clause-inode : goal.page_block-requires-clause-inode
-page_block-requires-clause-inode g c = c.requires.inode
-
 pub page_block-requires-clause-place : goal.page_block-requires-clause-place
 page_block-requires-clause-place g c = first_within c.args.at _ _ c.requires.some c.requires.place
-
-pub store_run-requires-clause-sound : goal.store_run-requires-clause-sound
-store_run-requires-clause-sound g c = c.page_block.ensures.sound
 
 pub store_run-requires-clause-place : goal.store_run-requires-clause-place
 store_run-requires-clause-place g c = run_span c.args.shape.now _ c.args.i.0 c.args.at c.in-Ok.b.0 _ c.page_block.ensures.can c.in-Ok.ensures.page c.requires.within
@@ -58,12 +46,6 @@ returns-in-Err-Stopped-clause-front g c = held_none c.args.shape.now _ _ c.args.
 pub returns-in-Ok-clause-ends : goal.returns-in-Ok-clause-ends
 returns-in-Ok-clause-ends g c = ends_later _ _ _ _ c.in-Ok.ensures.ends.later c.in-Ok.ensures.ends.cause c.store_run.ensures.ends
 
-pub returns-in-Ok-clause-sound : goal.returns-in-Ok-clause-sound
-returns-in-Ok-clause-sound g c = c.store_run.ensures.sound
-
-pub returns-in-Err-Fault-clause-ok : goal.returns-in-Err-Fault-clause-ok
-returns-in-Err-Fault-clause-ok g c = tt
-
 pub returns-in-Err-Fault-clause-fault : goal.returns-in-Err-Fault-clause-fault
 returns-in-Err-Fault-clause-fault g c = (c.requires.some, none_held c.args.shape.now _ _ c.args.i.0 c.args.at c.args.from.now c.page_block.ensures.words)
 
@@ -76,15 +58,6 @@ returns-in-Err-Fault-clause-goes g c = (g.met.V.Volume.passes_keeps _ _ c.page_b
 pub returns-in-Err-Fault-clause-ends : goal.returns-in-Err-Fault-clause-ends
 returns-in-Err-Fault-clause-ends g c = ends_told _ _ _ _ c.in-Err-Fault.field-0-is c.in-Err-Fault.ensures.ends
 
-pub returns-in-Err-Fault-clause-sound : goal.returns-in-Err-Fault-clause-sound
-returns-in-Err-Fault-clause-sound g c = c.page_block.ensures.sound
-
-pub returns-in-Err-Stopped-clause-ok : goal.returns-in-Err-Stopped-clause-ok
-returns-in-Err-Stopped-clause-ok g c = tt
-
-pub returns-in-Err-Stopped-clause-fault : goal.returns-in-Err-Stopped-clause-fault
-returns-in-Err-Stopped-clause-fault g c = tt
-
 pub returns-in-Err-Stopped-clause-rest : goal.returns-in-Err-Stopped-clause-rest
 returns-in-Err-Stopped-clause-rest g c = rest_same c.args.shape.now c.args.i.0 _ _ c.page_block.ensures.words
 
@@ -93,9 +66,6 @@ returns-in-Err-Stopped-clause-goes g c = (g.met.V.Volume.passes_keeps _ _ c.page
 
 pub returns-in-Err-Stopped-clause-ends : goal.returns-in-Err-Stopped-clause-ends
 returns-in-Err-Stopped-clause-ends g c = ends_told _ _ _ _ c.in-Err-Stopped.field-0-is c.in-Err-Stopped.ensures.ends
-
-pub returns-in-Err-Stopped-clause-sound : goal.returns-in-Err-Stopped-clause-sound
-returns-in-Err-Stopped-clause-sound g c = c.page_block.ensures.sound
 
 pub returns-in-Err-Fault-clause-ready : goal.returns-in-Err-Fault-clause-ready
 returns-in-Err-Fault-clause-ready g c = ready_read c.args.shape.now _ _ _ _ _ _ _ _ c.requires.ready c.page_block.ensures.can c.page_block.ensures.words (g.met.V.Volume.passes_keeps _ _ c.page_block.ensures.passes)

@@ -6,21 +6,6 @@ use Rattle.region_view.proofs.RegionPlaces.{can_name, ready_read, reads_ready, o
 use Rattle.region_view.proofs.RunEnds.{ok_as}
 use Rattle.region_view.proofs.region_pages.store_word.Goals as goal
 
-pub page_block-requires-clause-sound : goal.page_block-requires-clause-sound
-page_block-requires-clause-sound g c = c.requires.sound
-
-pub page_block-requires-clause-region : goal.page_block-requires-clause-region
-page_block-requires-clause-region g c = c.requires.region
-
-pub page_block-requires-clause-inode : goal.page_block-requires-clause-inode
-page_block-requires-clause-inode g c = c.requires.inode
-
-pub page_block-requires-clause-place : goal.page_block-requires-clause-place
-page_block-requires-clause-place g c = c.requires.place
-
-pub store-requires-clause-sound : goal.store-requires-clause-sound
-store-requires-clause-sound g c = c.page_block.ensures.sound
-
 pub store-requires-clause-place : goal.store-requires-clause-place
 store-requires-clause-place g c = record {
   block = page_below c.args.shape.now _ c.args.i.0 c.args.at c.in_ok-b.b.0 c.page_block.ensures.can c.in_ok-b.ensures.page;
@@ -53,9 +38,6 @@ returns-in_err-b-clause-ends g c =
     let p = err_from_is_err_and c.from_residual.result c.from_residual.ensures.1 in
     ends_vol _ _ c.page_block.result c.from_residual.result _ p.0 c.in_err-b.was p.1 p.2 c.page_block.ensures.ends
 
-pub returns-in_err-b-clause-sound : goal.returns-in_err-b-clause-sound
-returns-in_err-b-clause-sound g c = c.page_block.ensures.sound
-
 pub returns-clause-ok : goal.returns-clause-ok
 returns-clause-ok g c = ok_as c.store.result _ _ (one_put c.args.shape.now _ _ _ c.args.i.0 c.args.at c.in_ok-b.b.0 _ c.args.word c.page_block.ensures.can c.in_ok-b.ensures.page refl c.page_block.ensures.words) c.store.ensures.ok
 
@@ -76,9 +58,6 @@ returns-clause-fault g c = λ is. still_word c.args.shape.now _ _ c.args.i.0 ((c
 
 pub returns-clause-ends : goal.returns-clause-ends
 returns-clause-ends g c = ends_later _ _ _ c.store.result c.in_ok-b.ensures.ends.later c.in_ok-b.ensures.ends.cause c.store.ensures.ends
-
-pub returns-clause-sound : goal.returns-clause-sound
-returns-clause-sound g c = c.store.ensures.sound
 
 pub returns-in_err-b-clause-ready : goal.returns-in_err-b-clause-ready
 returns-in_err-b-clause-ready g c = ready_read c.args.shape.now _ _ _ _ _ _ _ _ c.requires.ready c.page_block.ensures.can c.page_block.ensures.words (g.met.V.Volume.passes_keeps _ _ c.page_block.ensures.passes)

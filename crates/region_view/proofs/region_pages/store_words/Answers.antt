@@ -85,12 +85,6 @@ loop-done-init g c = record {
   sound = c.requires.sound;
 }
 
-pub store_page-requires-clause-sound : goal.store_page-requires-clause-sound
-store_page-requires-clause-sound g c = c.loop-done.invariant.sound
-
-pub store_page-requires-clause-ready : goal.store_page-requires-clause-ready
-store_page-requires-clause-ready g c = c.loop-done.invariant.ready
-
 pub store_page-requires-clause-region : goal.store_page-requires-clause-region
 store_page-requires-clause-region g c = c.loop-done.invariant.rest.kind ∙ c.requires.region
 
@@ -100,44 +94,8 @@ store_page-requires-clause-some g c = rest_some c.args.from.now c.loop-done.done
 pub store_page-requires-clause-place : goal.store_page-requires-clause-place
 store_page-requires-clause-place g c = rest_place c.args.from.now c.args.at c.loop-done.done _ _ c.loop-done.invariant.within c.loop-done.invariant.rest.size c.requires.place
 
-pub returns-in-Err-Fault-clause-ok : goal.returns-in-Err-Fault-clause-ok
-returns-in-Err-Fault-clause-ok g c = tt
-
-pub returns-in-Err-Fault-clause-ready : goal.returns-in-Err-Fault-clause-ready
-returns-in-Err-Fault-clause-ready g c = c.store_page.ensures.ready
-
-pub returns-in-Err-Fault-clause-sound : goal.returns-in-Err-Fault-clause-sound
-returns-in-Err-Fault-clause-sound g c = c.store_page.ensures.sound
-
-pub returns-in-Err-Stopped-clause-ok : goal.returns-in-Err-Stopped-clause-ok
-returns-in-Err-Stopped-clause-ok g c = tt
-
-pub returns-in-Err-Stopped-clause-fault : goal.returns-in-Err-Stopped-clause-fault
-returns-in-Err-Stopped-clause-fault g c = tt
-
-pub returns-in-Err-Stopped-clause-ready : goal.returns-in-Err-Stopped-clause-ready
-returns-in-Err-Stopped-clause-ready g c = c.store_page.ensures.ready
-
-pub returns-in-Err-Stopped-clause-sound : goal.returns-in-Err-Stopped-clause-sound
-returns-in-Err-Stopped-clause-sound g c = c.store_page.ensures.sound
-
-pub returns-clause-fault : goal.returns-clause-fault
-returns-clause-fault g c = tt
-
 pub returns-clause-front : goal.returns-clause-front
 returns-clause-front g c = (c.loop-done.done, c.loop-done.invariant.within, c.loop-done.invariant.words)
 
-pub returns-clause-rest : goal.returns-clause-rest
-returns-clause-rest g c = c.loop-done.invariant.rest
-
-pub returns-clause-ready : goal.returns-clause-ready
-returns-clause-ready g c = c.loop-done.invariant.ready
-
-pub returns-clause-goes : goal.returns-clause-goes
-returns-clause-goes g c = c.loop-done.invariant.goes
-
 pub returns-clause-ends : goal.returns-clause-ends
 returns-clause-ends g c = ends_vol_ok _ _ _ c.loop-done.invariant.later c.loop-done.invariant.running
-
-pub returns-clause-sound : goal.returns-clause-sound
-returns-clause-sound g c = c.loop-done.invariant.sound

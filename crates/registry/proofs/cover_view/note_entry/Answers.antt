@@ -1,23 +1,11 @@
-use Rattle.std.proofs.Common.{◌+◌, ◌∙◌, ap, arith, inl, inr, refl, sym}
+use Rattle.std.proofs.Common.{◌+◌, ◌∙◌, ap, arith, inl, inr, sym}
 use Rattle.std.proofs.lemmas.List.{length-set}
 use Rattle.rio_model.specs.Registry.{is_valid, tag_block}
 use Rattle.registry.proofs.Views.{noted_here, noted_nowhere}
 use Rattle.registry.proofs.cover_view.note_entry.Goals as goal
 
-pub load_tag-tag-requires-clause-layout : goal.load_tag-tag-requires-clause-layout
-load_tag-tag-requires-clause-layout g c = c.requires.layout
-
-pub load_tag-tag-requires-clause-entry : goal.load_tag-tag-requires-clause-entry
-load_tag-tag-requires-clause-entry g c = c.requires.entry
-
 pub bounds-entries-block : goal.bounds-entries-block
 bounds-entries-block g c = c.if-block-entries.false
-
-pub returns-then-not-is_valid-clause-len : goal.returns-then-not-is_valid-clause-len
-returns-then-not-is_valid-clause-len g c = refl
-
-pub returns-then-block-entries-clause-len : goal.returns-then-block-entries-clause-len
-returns-then-block-entries-clause-len g c = refl
 
 pub returns-clause-len : goal.returns-clause-len
 returns-clause-len g c = length-set c.args.entries.now c.block-block.result.0 (c.args.k + 1)

@@ -6,9 +6,6 @@ use Rattle.registry.proofs.cover_view.view_tables.Goals as goal
 pub overflow_cast-disk_blocks : goal.overflow_cast-disk_blocks
 overflow_cast-disk_blocks g c = omega (arith, c.disk_blocks.type_inv)
 
-pub note_entries-requires-clause-layout : goal.note_entries-requires-clause-layout
-note_entries-requires-clause-layout g c = c.requires.layout
-
 pub note_entries-requires-clause-none : goal.note_entries-requires-clause-none
 note_entries-requires-clause-none g c = λ b less. zeros_are _ _ _ b c.deref_mut.ensures.value (c.in_ok-entries.ensures.items_if_clones_equal (λ y e. e))
 

@@ -3,20 +3,8 @@ use Rattle.registry.proofs.Changes.{tag_stored}
 use Rattle.registry.proofs.Exits.{ok_then}
 use Rattle.registry.proofs.entry_changes.clear.Goals as goal
 
-pub put_entry_word-requires-clause-can : goal.put_entry_word-requires-clause-can
-put_entry_word-requires-clause-can g c = c.requires.can
-
 pub put_entry_word-requires-clause-within : goal.put_entry_word-requires-clause-within
 put_entry_word-requires-clause-within g c = omega arith
 
 pub returns-clause-stored : goal.returns-clause-stored
 returns-clause-stored g c = ok_then c.put_entry_word.result _ _ (tag_stored (g.M.Machine.contents c.args.m.now) (g.M.Machine.contents c.put_entry_word.new.m) c.args.k 0 0 refl) c.put_entry_word.ensures.stored
-
-pub returns-clause-entry : goal.returns-clause-entry
-returns-clause-entry g c = c.put_entry_word.ensures.entry
-
-pub returns-clause-same : goal.returns-clause-same
-returns-clause-same g c = c.put_entry_word.ensures.same
-
-pub returns-clause-changes : goal.returns-clause-changes
-returns-clause-changes g c = c.put_entry_word.ensures.changes

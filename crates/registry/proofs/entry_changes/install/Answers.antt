@@ -11,9 +11,3 @@ returns-clause-stored g c = ok_then c.put_entry.result _ _ (entry_put (g.M.Machi
 
 pub returns-clause-entry : goal.returns-clause-entry
 returns-clause-entry g c = ok_then c.put_entry.result _ _ (entry_told (entry_of (g.M.Machine.contents c.put_entry.new.m).words c.args.k) _ _ c.entry_for.ensures) c.put_entry.ensures.entry
-
-pub returns-clause-begun : goal.returns-clause-begun
-returns-clause-begun g c = c.put_entry.ensures.begun
-
-pub returns-clause-changes : goal.returns-clause-changes
-returns-clause-changes g c = c.put_entry.ensures.changes

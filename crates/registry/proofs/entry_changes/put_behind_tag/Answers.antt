@@ -13,9 +13,6 @@ overflow_add-first g c = omega (arith, c.place_of-first.ensures.small)
 pub overflow_cast-first : goal.overflow_cast-first
 overflow_cast-first g c = omega arith
 
-pub put_run-requires-clause-closed : goal.put_run-requires-clause-closed
-put_run-requires-clause-closed g c = c.requires.can.closed
-
 pub put_run-requires-clause-within : goal.put_run-requires-clause-within
 put_run-requires-clause-within g c = omega (arith, c.place_of-first.ensures.place, run_on_page c.args.k)
 

@@ -13,9 +13,6 @@ overflow_add-place g c = omega (arith, c.place_of.ensures.small, c.from.ensures,
 pub overflow_cast-place : goal.overflow_cast-place
 overflow_cast-place g c = omega arith
 
-pub put_word-requires-clause-closed : goal.put_word-requires-clause-closed
-put_word-requires-clause-closed g c = c.requires.can.closed
-
 pub put_word-requires-clause-within : goal.put_word-requires-clause-within
 put_word-requires-clause-within g c = omega arith
 
@@ -27,9 +24,6 @@ returns-clause-stored g c = ok_then c.put_word.result _ _ (word_stored (g.M.Mach
 
 pub returns-clause-entry : goal.returns-clause-entry
 returns-clause-entry g c = ok_then c.put_word.result _ _ (entry_stored (g.M.Machine.contents c.args.m.now) (g.M.Machine.contents c.put_word.new.m) c.args.k c.args.w c.args.v _ (omega (arith, c.place_of.ensures.place, c.from.ensures)) (entry_within _ _ c.args.k c.requires.can.layout c.requires.can.entry)) c.put_word.ensures.stored
-
-pub returns-clause-same : goal.returns-clause-same
-returns-clause-same g c = c.put_word.ensures.same
 
 pub returns-clause-changes : goal.returns-clause-changes
 returns-clause-changes g c = changed_by c.put_word.result c.args.k c.args.w c.args.v _ _ _ _ _ c.requires.can c.requires.within (omega (arith, c.place_of.ensures.place, c.from.ensures)) c.put_word.ensures.stored c.put_word.ensures.same c.put_word.ensures.lasts c.put_word.ensures.halted c.put_word.ensures.ends

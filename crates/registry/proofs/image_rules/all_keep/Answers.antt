@@ -8,9 +8,6 @@ use Rattle.registry.proofs.image_rules.all_keep.Goals as goal
 pub frame_count-k-end-requires : goal.frame_count-k-end-requires
 frame_count-k-end-requires g c = record { layout = c.requires.layout }
 
-pub read_entry-entry-requires-clause-layout : goal.read_entry-entry-requires-clause-layout
-read_entry-entry-requires-clause-layout g c = c.requires.layout
-
 pub read_entry-entry-requires-clause-entry : goal.read_entry-entry-requires-clause-entry
 read_entry-entry-requires-clause-entry g c = omega (arith, c.loop-k-test.true, c.frame_count-k-end.ensures)
 

@@ -4,15 +4,6 @@ use Rattle.rio_model.specs.Registry.{is_valid, tag_block}
 use Rattle.registry.proofs.ImageRules.{marked_taken, marks_skip, marks_take, takes_as, takes_none, unmarked_free}
 use Rattle.registry.proofs.image_rules.takes_block.Goals as goal
 
-pub load_tag-tag-requires-clause-layout : goal.load_tag-tag-requires-clause-layout
-load_tag-tag-requires-clause-layout g c = c.requires.layout
-
-pub load_tag-tag-requires-clause-entry : goal.load_tag-tag-requires-clause-entry
-load_tag-tag-requires-clause-entry g c = c.requires.entry
-
-pub is_free_before-requires-clause-layout : goal.is_free_before-requires-clause-layout
-is_free_before-requires-clause-layout g c = c.requires.layout
-
 pub is_free_before-requires-clause-entries : goal.is_free_before-requires-clause-entries
 is_free_before-requires-clause-entries g c = omega (arith, c.requires.entry)
 

@@ -7,27 +7,6 @@ use Rattle.registry.proofs.pages.counted_page_of.Goals as goal
 pub load-updating-requires : goal.load-updating-requires
 load-updating-requires g c = in_memory _ _ 4 (omega (arith, c.requires.layout.protected))
 
-pub frame_page_of-requires-clause-layout : goal.frame_page_of-requires-clause-layout
-frame_page_of-requires-clause-layout g c = c.requires.layout
-
-pub frame_page_of-requires-clause-entry : goal.frame_page_of-requires-clause-entry
-frame_page_of-requires-clause-entry g c = c.requires.valid.within
-
-pub frame_page_of-requires-then-shadow-eq0-clause-layout : goal.frame_page_of-requires-then-shadow-eq0-clause-layout
-frame_page_of-requires-then-shadow-eq0-clause-layout g c = c.requires.layout
-
-pub frame_page_of-requires-then-shadow-eq0-clause-entry : goal.frame_page_of-requires-then-shadow-eq0-clause-entry
-frame_page_of-requires-then-shadow-eq0-clause-entry g c = c.requires.valid.within
-
-pub read_entry-shadow-requires-clause-layout : goal.read_entry-shadow-requires-clause-layout
-read_entry-shadow-requires-clause-layout g c = c.requires.layout
-
-pub read_entry-shadow-requires-clause-entry : goal.read_entry-shadow-requires-clause-entry
-read_entry-shadow-requires-clause-entry g c = c.requires.valid.within
-
-pub shadow_page_of-requires-clause-layout : goal.shadow_page_of-requires-clause-layout
-shadow_page_of-requires-clause-layout g c = c.requires.layout
-
 pub shadow_page_of-requires-clause-shadow : goal.shadow_page_of-requires-clause-shadow
 shadow_page_of-requires-clause-shadow g c = subst (λ n. n ≤ 16) (sym (ap (λ (e : Entry). e.shadow) c.read_entry-shadow.ensures)) (shadow_small (g.M.Machine.contents c.args.m.now).words c.args.k c.requires.shadows c.requires.valid)
 
@@ -37,17 +16,8 @@ overflow_cast-shadow g c = let few : c.read_entry-shadow.result.shadow ≤ 16 = 
 pub returns-then-not-updating-clause-page : goal.returns-then-not-updating-clause-page
 returns-then-not-updating-clause-page g c = counts_frame (g.M.Machine.contents c.args.m.now).words c.args.k _ c.frame_page_of.ensures.page (inl (λ e. c.if-not-updating.true (c.load-updating.ensures.protected (omega (arith, c.requires.layout.protected)) ∙ e)))
 
-pub returns-then-not-updating-clause-within : goal.returns-then-not-updating-clause-within
-returns-then-not-updating-clause-within g c = c.frame_page_of.ensures.within
-
 pub returns-then-shadow-eq0-clause-page : goal.returns-then-shadow-eq0-clause-page
 returns-then-shadow-eq0-clause-page g c = counts_frame (g.M.Machine.contents c.args.m.now).words c.args.k _ c.frame_page_of-then-shadow-eq0.ensures.page (inr (sym (ap (λ (e : Entry). e.shadow) c.read_entry-shadow.ensures) ∙ c.if-shadow-eq0.true))
 
-pub returns-then-shadow-eq0-clause-within : goal.returns-then-shadow-eq0-clause-within
-returns-then-shadow-eq0-clause-within g c = c.frame_page_of-then-shadow-eq0.ensures.within
-
 pub returns-clause-page : goal.returns-clause-page
 returns-clause-page g c = counts_shadow (g.M.Machine.contents c.args.m.now).words c.args.k _ _ c.shadow_page_of.ensures.page (ap (λ (e : Entry). e.shadow) c.read_entry-shadow.ensures) (sym (c.load-updating.ensures.protected (omega (arith, c.requires.layout.protected))) ∙ c.if-not-updating.false) c.if-shadow-eq0.false
-
-pub returns-clause-within : goal.returns-clause-within
-returns-clause-within g c = c.shadow_page_of.ensures.within

@@ -25,9 +25,6 @@ bounds-out-done c =
     let step = c.in-Some-2.ensures.steps in
     omega (arith, room_for_two _ _ _ _ _ _ _ c.loop-i.invariant.decoded step.0.1.0 (step.0.1.1 ∙ c.loop-i.invariant.size), step.1)
 
-pub returns-in_default : goal.returns-in_default
-returns-in_default c = c.in_default.ensures
-
 pub returns : goal.returns
 returns c =
     decoded_all c.args.digits.now c.loop-i.out c.loop-i.seen _ _ c.are_digits.result c.are_digits.ensures c.loop-i.invariant.decoded (omega (arith, c.in-None.ensures.steps.0.1.0, c.loop-i.invariant.size))

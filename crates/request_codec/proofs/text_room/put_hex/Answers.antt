@@ -19,8 +19,5 @@ chunks-preserved g c = record {
 pub returns : goal.returns
 returns g c = encoded_done c.args.bytes.now _ _ _ (omega (arith, c.chunks-test.false)) c.chunks.invariant.fits c.chunks.invariant.sent
 
-pub make_room-requires-clause-fits : goal.make_room-requires-clause-fits
-make_room-requires-clause-fits g c = c.chunks.invariant.fits
-
 pub make_room-requires-clause-enough : goal.make_room-requires-clause-enough
 make_room-requires-clause-enough g c = subst (λ n. 2 ≤ n) (sym c.chunks.auto.room) c.requires.enough

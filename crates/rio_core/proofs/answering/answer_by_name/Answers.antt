@@ -119,65 +119,17 @@ returns-in-Ok-open_list-clause-in_step g c = λ on. c.rename.ensures.in_step (no
 pub returns-in-List-clause-in_step : goal.returns-in-List-clause-in_step
 returns-in-List-clause-in_step g c = λ on. c.list.ensures.in_step (not_stopped SaysNames c.list.result c.names_reply.result c.names_reply.ensures on)
 
-pub unlink-requires-clause-sound : goal.unlink-requires-clause-sound
-unlink-requires-clause-sound g c = c.requires.sound
-
-pub unlink-requires-clause-in_step : goal.unlink-requires-clause-in_step
-unlink-requires-clause-in_step g c = c.requires.in_step
-
 pub unlink-requires-clause-path : goal.unlink-requires-clause-path
 unlink-requires-clause-path g c = subst IsPath (sym c.as_slice.ensures) (subst IsRequest c.in-Unlink.is c.requires.request)
-
-pub returns-in-Ok-clause-goes : goal.returns-in-Ok-clause-goes
-returns-in-Ok-clause-goes g c = c.unlink.ensures.goes
-
-pub returns-in-Ok-clause-sound : goal.returns-in-Ok-clause-sound
-returns-in-Ok-clause-sound g c = c.unlink.ensures.sound
-
-pub rmdir-requires-clause-sound : goal.rmdir-requires-clause-sound
-rmdir-requires-clause-sound g c = c.requires.sound
-
-pub rmdir-requires-clause-in_step : goal.rmdir-requires-clause-in_step
-rmdir-requires-clause-in_step g c = c.requires.in_step
 
 pub rmdir-requires-clause-path : goal.rmdir-requires-clause-path
 rmdir-requires-clause-path g c = subst IsPath (sym c.as_slice-in-Rmdir.ensures) (subst IsRequest c.in-Rmdir.is c.requires.request)
 
-pub returns-in-Rmdir-clause-goes : goal.returns-in-Rmdir-clause-goes
-returns-in-Rmdir-clause-goes g c = c.rmdir.ensures.goes
-
-pub returns-in-Rmdir-clause-sound : goal.returns-in-Rmdir-clause-sound
-returns-in-Rmdir-clause-sound g c = c.rmdir.ensures.sound
-
-pub rename-requires-clause-sound : goal.rename-requires-clause-sound
-rename-requires-clause-sound g c = c.requires.sound
-
-pub rename-requires-clause-in_step : goal.rename-requires-clause-in_step
-rename-requires-clause-in_step g c = c.requires.in_step
-
 pub rename-requires-clause-path : goal.rename-requires-clause-path
 rename-requires-clause-path g c = subst IsPath (sym c.as_slice-in-Ok-open_list.ensures) (subst IsRequest c.in-Rename.is c.requires.request).0
 
-pub returns-in-Ok-open_list-clause-goes : goal.returns-in-Ok-open_list-clause-goes
-returns-in-Ok-open_list-clause-goes g c = c.rename.ensures.goes
-
-pub returns-in-Ok-open_list-clause-sound : goal.returns-in-Ok-open_list-clause-sound
-returns-in-Ok-open_list-clause-sound g c = c.rename.ensures.sound
-
-pub list-requires-clause-sound : goal.list-requires-clause-sound
-list-requires-clause-sound g c = c.requires.sound
-
-pub list-requires-clause-in_step : goal.list-requires-clause-in_step
-list-requires-clause-in_step g c = c.requires.in_step
-
 pub list-requires-clause-path : goal.list-requires-clause-path
 list-requires-clause-path g c = subst IsPath (sym c.as_slice-in-List.ensures) (subst IsRequest c.in-List.is c.requires.request)
-
-pub returns-in-List-clause-goes : goal.returns-in-List-clause-goes
-returns-in-List-clause-goes g c = c.list.ensures.goes
-
-pub returns-in-List-clause-sound : goal.returns-in-List-clause-sound
-returns-in-List-clause-sound g c = c.list.ensures.sound
 
 pub rename-requires-clause-to : goal.rename-requires-clause-to
 rename-requires-clause-to g c = subst IsPath (sym c.as_slice-in-Ok-open_list-2.ensures) (subst IsRequest c.in-Rename.is c.requires.request).1
@@ -191,9 +143,6 @@ returns-in-Err-clause-goes g c = goes_refl _ _
 pub returns-in-Err-clause-ends : goal.returns-in-Err-clause-ends
 returns-in-Err-clause-ends g c = reply_well _ _ (RefusedBy 31) refl (λ f. f)
 
-pub returns-in-Err-clause-sound : goal.returns-in-Err-clause-sound
-returns-in-Err-clause-sound g c = c.requires.sound
-
 pub returns-in-Err-open_list-clause-in_step : goal.returns-in-Err-open_list-clause-in_step
 returns-in-Err-open_list-clause-in_step g c = λ on. c.requires.in_step
 
@@ -202,6 +151,3 @@ returns-in-Err-open_list-clause-goes g c = goes_refl _ _
 
 pub returns-in-Err-open_list-clause-ends : goal.returns-in-Err-open_list-clause-ends
 returns-in-Err-open_list-clause-ends g c = reply_well _ _ (RefusedBy 31) refl (λ f. f)
-
-pub returns-in-Err-open_list-clause-sound : goal.returns-in-Err-open_list-clause-sound
-returns-in-Err-open_list-clause-sound g c = c.requires.sound

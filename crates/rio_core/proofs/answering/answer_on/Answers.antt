@@ -162,140 +162,29 @@ answer_by_name-requires-clause-by_name g c =
     let d = c.in_default in
     left_by_name c.args.request.now (record { mkdir = d.not-Mkdir; create = d.not-Create; region = d.not-Region; write = d.not-Write; read = d.not-Read; truncate = d.not-Truncate; stat = d.not-Stat }) c.requires.files
 
-pub answer_by_name-requires-clause-serves : goal.answer_by_name-requires-clause-serves
-answer_by_name-requires-clause-serves g c = c.requires.serves
-
-pub returns-in_default-clause-answered : goal.returns-in_default-clause-answered
-returns-in_default-clause-answered g c = c.answer_by_name.ensures.answered
-
-pub returns-in_default-clause-in_step : goal.returns-in_default-clause-in_step
-returns-in_default-clause-in_step g c = c.answer_by_name.ensures.in_step
-
-pub returns-in_default-clause-goes : goal.returns-in_default-clause-goes
-returns-in_default-clause-goes g c = c.answer_by_name.ensures.goes
-
-pub returns-in_default-clause-ends : goal.returns-in_default-clause-ends
-returns-in_default-clause-ends g c = c.answer_by_name.ensures.ends
-
-pub mkdir-requires-clause-sound : goal.mkdir-requires-clause-sound
-mkdir-requires-clause-sound g c = c.requires.sound
-
-pub mkdir-requires-clause-in_step : goal.mkdir-requires-clause-in_step
-mkdir-requires-clause-in_step g c = c.requires.in_step
-
 pub mkdir-requires-clause-path : goal.mkdir-requires-clause-path
 mkdir-requires-clause-path g c = subst IsPath (sym c.as_slice.ensures) (subst IsRequest c.in-Mkdir.is c.requires.request)
-
-pub returns-in-Mkdir-clause-goes : goal.returns-in-Mkdir-clause-goes
-returns-in-Mkdir-clause-goes g c = c.mkdir.ensures.goes
-
-pub returns-in-Mkdir-clause-sound : goal.returns-in-Mkdir-clause-sound
-returns-in-Mkdir-clause-sound g c = c.mkdir.ensures.sound
-
-pub create-requires-clause-sound : goal.create-requires-clause-sound
-create-requires-clause-sound g c = c.requires.sound
-
-pub create-requires-clause-in_step : goal.create-requires-clause-in_step
-create-requires-clause-in_step g c = c.requires.in_step
 
 pub create-requires-clause-path : goal.create-requires-clause-path
 create-requires-clause-path g c = subst IsPath (sym c.as_slice-in-Create.ensures) (subst IsRequest c.in-Create.is c.requires.request)
 
-pub returns-in-Create-clause-goes : goal.returns-in-Create-clause-goes
-returns-in-Create-clause-goes g c = c.create.ensures.goes
-
-pub returns-in-Create-clause-sound : goal.returns-in-Create-clause-sound
-returns-in-Create-clause-sound g c = c.create.ensures.sound
-
-pub write-requires-clause-sound : goal.write-requires-clause-sound
-write-requires-clause-sound g c = c.requires.sound
-
-pub write-requires-clause-in_step : goal.write-requires-clause-in_step
-write-requires-clause-in_step g c = c.requires.in_step
-
 pub write-requires-clause-path : goal.write-requires-clause-path
 write-requires-clause-path g c = subst IsPath (sym c.as_slice-in-Write.ensures) (subst IsRequest c.in-Write.is c.requires.request).0
-
-pub returns-in-Write-clause-goes : goal.returns-in-Write-clause-goes
-returns-in-Write-clause-goes g c = c.write.ensures.goes
-
-pub returns-in-Write-clause-sound : goal.returns-in-Write-clause-sound
-returns-in-Write-clause-sound g c = c.write.ensures.sound
-
-pub read-requires-clause-sound : goal.read-requires-clause-sound
-read-requires-clause-sound g c = c.requires.sound
-
-pub read-requires-clause-in_step : goal.read-requires-clause-in_step
-read-requires-clause-in_step g c = c.requires.in_step
 
 pub read-requires-clause-path : goal.read-requires-clause-path
 read-requires-clause-path g c = subst IsPath (sym c.as_slice-in-Read.ensures) (subst IsRequest c.in-Read.is c.requires.request).0
 
-pub returns-in-Read-clause-goes : goal.returns-in-Read-clause-goes
-returns-in-Read-clause-goes g c = c.read.ensures.goes
-
-pub returns-in-Read-clause-sound : goal.returns-in-Read-clause-sound
-returns-in-Read-clause-sound g c = c.read.ensures.sound
-
-pub truncate-requires-clause-sound : goal.truncate-requires-clause-sound
-truncate-requires-clause-sound g c = c.requires.sound
-
-pub truncate-requires-clause-in_step : goal.truncate-requires-clause-in_step
-truncate-requires-clause-in_step g c = c.requires.in_step
-
 pub truncate-requires-clause-path : goal.truncate-requires-clause-path
 truncate-requires-clause-path g c = subst IsPath (sym c.as_slice-in-Truncate.ensures) (subst IsRequest c.in-Truncate.is c.requires.request)
-
-pub returns-in-Truncate-clause-goes : goal.returns-in-Truncate-clause-goes
-returns-in-Truncate-clause-goes g c = c.truncate.ensures.goes
-
-pub returns-in-Truncate-clause-sound : goal.returns-in-Truncate-clause-sound
-returns-in-Truncate-clause-sound g c = c.truncate.ensures.sound
-
-pub make_region-requires-clause-sound : goal.make_region-requires-clause-sound
-make_region-requires-clause-sound g c = c.requires.sound
-
-pub make_region-requires-clause-in_step : goal.make_region-requires-clause-in_step
-make_region-requires-clause-in_step g c = c.requires.in_step
 
 pub make_region-requires-clause-path : goal.make_region-requires-clause-path
 make_region-requires-clause-path g c = subst IsPath (sym c.as_slice-in-Region.ensures) (subst IsRequest c.in-Region.is c.requires.request).0
 
-pub returns-in-Region-clause-goes : goal.returns-in-Region-clause-goes
-returns-in-Region-clause-goes g c = c.make_region.ensures.goes
-
-pub returns-in-Region-clause-sound : goal.returns-in-Region-clause-sound
-returns-in-Region-clause-sound g c = c.make_region.ensures.sound
-
-pub stat-requires-clause-sound : goal.stat-requires-clause-sound
-stat-requires-clause-sound g c = c.requires.sound
-
-pub stat-requires-clause-in_step : goal.stat-requires-clause-in_step
-stat-requires-clause-in_step g c = c.requires.in_step
-
 pub stat-requires-clause-path : goal.stat-requires-clause-path
 stat-requires-clause-path g c = subst IsPath (sym c.as_slice-in-Stat.ensures) (subst IsRequest c.in-Stat.is c.requires.request)
-
-pub returns-in-Stat-clause-goes : goal.returns-in-Stat-clause-goes
-returns-in-Stat-clause-goes g c = c.stat.ensures.goes
-
-pub returns-in-Stat-clause-sound : goal.returns-in-Stat-clause-sound
-returns-in-Stat-clause-sound g c = c.stat.ensures.sound
 
 pub make_region-requires-clause-pages : goal.make_region-requires-clause-pages
 make_region-requires-clause-pages g c = (subst IsRequest c.in-Region.is c.requires.request).1
 
 pub make_region-requires-clause-undo : goal.make_region-requires-clause-undo
 make_region-requires-clause-undo g c = (subst IsRequest c.in-Region.is c.requires.request).2
-
-pub answer_by_name-requires-clause-sound : goal.answer_by_name-requires-clause-sound
-answer_by_name-requires-clause-sound g c = c.requires.sound
-
-pub answer_by_name-requires-clause-in_step : goal.answer_by_name-requires-clause-in_step
-answer_by_name-requires-clause-in_step g c = c.requires.in_step
-
-pub answer_by_name-requires-clause-request : goal.answer_by_name-requires-clause-request
-answer_by_name-requires-clause-request g c = c.requires.request
-
-pub returns-in_default-clause-sound : goal.returns-in_default-clause-sound
-returns-in_default-clause-sound g c = c.answer_by_name.ensures.sound

@@ -59,15 +59,6 @@ returns-in-Abort-clause-answered g c =
 pub returns-in-Abort-clause-ends : goal.returns-in-Abort-clause-ends
 returns-in-Abort-clause-ends g c = ends_by_as (g.V.Blocks.health c.args.view.now.v) (g.V.Blocks.health c.abort.new.r.v) (IsFault c.abort.result) (IsErrOf c.abort.result Stopped) (TellsFault c.txn_reply-in-Abort.result) (IsErr c.txn_reply-in-Abort.result) c.txn_reply-in-Abort.ensures.fault c.txn_reply-in-Abort.ensures.stop c.txn_reply-in-Abort.ensures.stopped c.abort.ensures.causes
 
-pub returns-in-Range-clause-rest : goal.returns-in-Range-clause-rest
-returns-in-Range-clause-rest g c = c.set_range.ensures.stays.rest.rest
-
-pub returns-in-Commit-clause-rest : goal.returns-in-Commit-clause-rest
-returns-in-Commit-clause-rest g c = c.commit.ensures.stays.rest.rest
-
-pub returns-in-Abort-clause-rest : goal.returns-in-Abort-clause-rest
-returns-in-Abort-clause-rest g c = c.abort.ensures.stays.rest.rest
-
 pub returns-in-Begin-clause-rest : goal.returns-in-Begin-clause-rest
 returns-in-Begin-clause-rest g c = rest_refl _ _ _
 
@@ -76,92 +67,17 @@ answer_within-requires-clause-within g c =
     let d = c.in_default in
     left_within c.requires.at.0 c.args.request.now (record { begin = d.not-Begin; range = d.not-Range; commit = d.not-Commit; abort = d.not-Abort }) c.requires.at.1
 
-pub returns-in_default-clause-answered : goal.returns-in_default-clause-answered
-returns-in_default-clause-answered g c = c.answer_within.ensures.answered
-
-pub returns-in_default-clause-rest : goal.returns-in_default-clause-rest
-returns-in_default-clause-rest g c = c.answer_within.ensures.rest
-
-pub returns-in_default-clause-ends : goal.returns-in_default-clause-ends
-returns-in_default-clause-ends g c = c.answer_within.ensures.ends
-
 pub set_range-requires-clause-ready : goal.set_range-requires-clause-ready
 set_range-requires-clause-ready g c = (c.requires.sound, c.requires.on, c.requires.inode)
-
-pub set_range-requires-clause-fits : goal.set_range-requires-clause-fits
-set_range-requires-clause-fits g c = c.requires.fits
-
-pub returns-in-Range-clause-shape : goal.returns-in-Range-clause-shape
-returns-in-Range-clause-shape g c = c.set_range.ensures.stays.rest.shape
-
-pub returns-in-Range-clause-goes : goal.returns-in-Range-clause-goes
-returns-in-Range-clause-goes g c = c.set_range.ensures.stays.goes
-
-pub returns-in-Range-clause-sound : goal.returns-in-Range-clause-sound
-returns-in-Range-clause-sound g c = c.set_range.ensures.stays.ready.0
 
 pub commit-requires-clause-ready : goal.commit-requires-clause-ready
 commit-requires-clause-ready g c = (c.requires.sound, c.requires.on, c.requires.inode)
 
-pub commit-requires-clause-fits : goal.commit-requires-clause-fits
-commit-requires-clause-fits g c = c.requires.fits
-
-pub returns-in-Commit-clause-shape : goal.returns-in-Commit-clause-shape
-returns-in-Commit-clause-shape g c = c.commit.ensures.stays.rest.shape
-
-pub returns-in-Commit-clause-goes : goal.returns-in-Commit-clause-goes
-returns-in-Commit-clause-goes g c = c.commit.ensures.stays.goes
-
-pub returns-in-Commit-clause-sound : goal.returns-in-Commit-clause-sound
-returns-in-Commit-clause-sound g c = c.commit.ensures.stays.ready.0
-
 pub abort-requires-clause-ready : goal.abort-requires-clause-ready
 abort-requires-clause-ready g c = (c.requires.sound, c.requires.on, c.requires.inode)
-
-pub abort-requires-clause-fits : goal.abort-requires-clause-fits
-abort-requires-clause-fits g c = c.requires.fits
-
-pub returns-in-Abort-clause-shape : goal.returns-in-Abort-clause-shape
-returns-in-Abort-clause-shape g c = c.abort.ensures.stays.rest.shape
-
-pub returns-in-Abort-clause-goes : goal.returns-in-Abort-clause-goes
-returns-in-Abort-clause-goes g c = c.abort.ensures.stays.goes
-
-pub returns-in-Abort-clause-sound : goal.returns-in-Abort-clause-sound
-returns-in-Abort-clause-sound g c = c.abort.ensures.stays.ready.0
-
-pub returns-in-Begin-clause-shape : goal.returns-in-Begin-clause-shape
-returns-in-Begin-clause-shape g c = refl
 
 pub returns-in-Begin-clause-goes : goal.returns-in-Begin-clause-goes
 returns-in-Begin-clause-goes g c = goes_refl _ _
 
-pub returns-in-Begin-clause-sound : goal.returns-in-Begin-clause-sound
-returns-in-Begin-clause-sound g c = c.requires.sound
-
 pub returns-in-Begin-clause-ends : goal.returns-in-Begin-clause-ends
 returns-in-Begin-clause-ends g c = reply_well _ _ c.begin_reply.result refl c.begin_reply.ensures.fault
-
-pub answer_within-requires-clause-sound : goal.answer_within-requires-clause-sound
-answer_within-requires-clause-sound g c = c.requires.sound
-
-pub answer_within-requires-clause-on : goal.answer_within-requires-clause-on
-answer_within-requires-clause-on g c = c.requires.on
-
-pub answer_within-requires-clause-inode : goal.answer_within-requires-clause-inode
-answer_within-requires-clause-inode g c = c.requires.inode
-
-pub answer_within-requires-clause-fits : goal.answer_within-requires-clause-fits
-answer_within-requires-clause-fits g c = c.requires.fits
-
-pub answer_within-requires-clause-request : goal.answer_within-requires-clause-request
-answer_within-requires-clause-request g c = c.requires.request
-
-pub returns-in_default-clause-shape : goal.returns-in_default-clause-shape
-returns-in_default-clause-shape g c = c.answer_within.ensures.shape
-
-pub returns-in_default-clause-goes : goal.returns-in_default-clause-goes
-returns-in_default-clause-goes g c = c.answer_within.ensures.goes
-
-pub returns-in_default-clause-sound : goal.returns-in_default-clause-sound
-returns-in_default-clause-sound g c = c.answer_within.ensures.sound

@@ -59,49 +59,16 @@ returns-in-Err-clause-in_step g c =
     let call = c.stand_at.ensures in
     shaped_step old.shape new.shape _ _ _ call.shape call.words call.in_step
 
-pub stand_at-requires-clause-sound : goal.stand_at-requires-clause-sound
-stand_at-requires-clause-sound g c = c.requires.sound
-
 pub stand_at-requires-clause-can : goal.stand_at-requires-clause-can
 stand_at-requires-clause-can g c =
     let old = c.args.view.now in
     serves_can old.shape (g.V.Blocks.seen old.v) (g.V.Volume.kept old.v) c.args.table.now c.requires.serves.0 c.requires.serves.1
-
-pub stand_at-requires-clause-in_step : goal.stand_at-requires-clause-in_step
-stand_at-requires-clause-in_step g c = c.requires.in_step
-
-pub stand_at-requires-clause-path : goal.stand_at-requires-clause-path
-stand_at-requires-clause-path g c = c.requires.path
-
-pub answer_at-requires-clause-sound : goal.answer_at-requires-clause-sound
-answer_at-requires-clause-sound g c = c.stand_at.ensures.sound
-
-pub answer_at-requires-clause-on : goal.answer_at-requires-clause-on
-answer_at-requires-clause-on g c = c.in-Ok.ensures.on
-
-pub answer_at-requires-clause-inode : goal.answer_at-requires-clause-inode
-answer_at-requires-clause-inode g c = c.in-Ok.ensures.inode
-
-pub answer_at-requires-clause-request : goal.answer_at-requires-clause-request
-answer_at-requires-clause-request g c = c.requires.request
 
 pub answer_at-requires-clause-at : goal.answer_at-requires-clause-at
 answer_at-requires-clause-at g c = (c.args.path.now, c.requires.at)
 
 pub returns-in-Ok-clause-shape : goal.returns-in-Ok-clause-shape
 returns-in-Ok-clause-shape g c = c.answer_at.ensures.shape ∙ c.stand_at.ensures.shape
-
-pub returns-in-Ok-clause-sound : goal.returns-in-Ok-clause-sound
-returns-in-Ok-clause-sound g c = c.answer_at.ensures.sound
-
-pub returns-in-Err-clause-shape : goal.returns-in-Err-clause-shape
-returns-in-Err-clause-shape g c = c.stand_at.ensures.shape
-
-pub returns-in-Err-clause-goes : goal.returns-in-Err-clause-goes
-returns-in-Err-clause-goes g c = c.stand_at.ensures.goes
-
-pub returns-in-Err-clause-sound : goal.returns-in-Err-clause-sound
-returns-in-Err-clause-sound g c = c.stand_at.ensures.sound
 
 pub returns-in-Err-clause-ends : goal.returns-in-Err-clause-ends
 returns-in-Err-clause-ends g c = fail_ends _ _ c.stand_at.result c.in-Err.fail c.fail_reply.result c.in-Err.is c.fail_reply.ensures.fault c.fail_reply.ensures.stop c.fail_reply.ensures.stopped c.stand_at.ensures.ends

@@ -69,77 +69,17 @@ returns-in_default g c =
     let d = c.in_default in
     absurd (none_within c.args.request.now (record { put = d.not-Put; get = d.not-Get; alloc = d.not-Alloc; free = d.not-Free }) c.requires.within)
 
-pub returns-in-Put-clause-rest : goal.returns-in-Put-clause-rest
-returns-in-Put-clause-rest g c = c.put.ensures.stays.rest.rest
-
-pub returns-in-Get-clause-rest : goal.returns-in-Get-clause-rest
-returns-in-Get-clause-rest g c = c.get.ensures.stays.rest.rest
-
-pub returns-in-Alloc-clause-rest : goal.returns-in-Alloc-clause-rest
-returns-in-Alloc-clause-rest g c = c.allocate.ensures.stays.rest.rest
-
-pub returns-in-Free-clause-rest : goal.returns-in-Free-clause-rest
-returns-in-Free-clause-rest g c = c.release.ensures.stays.rest.rest
-
 pub put-requires-clause-ready : goal.put-requires-clause-ready
 put-requires-clause-ready g c = (c.requires.sound, c.requires.on, c.requires.inode)
-
-pub put-requires-clause-fits : goal.put-requires-clause-fits
-put-requires-clause-fits g c = c.requires.fits
-
-pub returns-in-Put-clause-shape : goal.returns-in-Put-clause-shape
-returns-in-Put-clause-shape g c = c.put.ensures.stays.rest.shape
-
-pub returns-in-Put-clause-goes : goal.returns-in-Put-clause-goes
-returns-in-Put-clause-goes g c = c.put.ensures.stays.goes
-
-pub returns-in-Put-clause-sound : goal.returns-in-Put-clause-sound
-returns-in-Put-clause-sound g c = c.put.ensures.stays.ready.0
 
 pub get-requires-clause-ready : goal.get-requires-clause-ready
 get-requires-clause-ready g c = (c.requires.sound, c.requires.on, c.requires.inode)
 
-pub get-requires-clause-fits : goal.get-requires-clause-fits
-get-requires-clause-fits g c = c.requires.fits
-
-pub returns-in-Get-clause-shape : goal.returns-in-Get-clause-shape
-returns-in-Get-clause-shape g c = c.get.ensures.stays.rest.shape
-
-pub returns-in-Get-clause-goes : goal.returns-in-Get-clause-goes
-returns-in-Get-clause-goes g c = c.get.ensures.stays.goes
-
-pub returns-in-Get-clause-sound : goal.returns-in-Get-clause-sound
-returns-in-Get-clause-sound g c = c.get.ensures.stays.ready.0
-
 pub allocate-requires-clause-ready : goal.allocate-requires-clause-ready
 allocate-requires-clause-ready g c = (c.requires.sound, c.requires.on, c.requires.inode)
 
-pub allocate-requires-clause-fits : goal.allocate-requires-clause-fits
-allocate-requires-clause-fits g c = c.requires.fits
-
-pub returns-in-Alloc-clause-shape : goal.returns-in-Alloc-clause-shape
-returns-in-Alloc-clause-shape g c = c.allocate.ensures.stays.rest.shape
-
-pub returns-in-Alloc-clause-goes : goal.returns-in-Alloc-clause-goes
-returns-in-Alloc-clause-goes g c = c.allocate.ensures.stays.goes
-
-pub returns-in-Alloc-clause-sound : goal.returns-in-Alloc-clause-sound
-returns-in-Alloc-clause-sound g c = c.allocate.ensures.stays.ready.0
-
 pub release-requires-clause-ready : goal.release-requires-clause-ready
 release-requires-clause-ready g c = (c.requires.sound, c.requires.on, c.requires.inode)
-
-pub release-requires-clause-fits : goal.release-requires-clause-fits
-release-requires-clause-fits g c = c.requires.fits
-
-pub returns-in-Free-clause-shape : goal.returns-in-Free-clause-shape
-returns-in-Free-clause-shape g c = c.release.ensures.stays.rest.shape
-
-pub returns-in-Free-clause-goes : goal.returns-in-Free-clause-goes
-returns-in-Free-clause-goes g c = c.release.ensures.stays.goes
-
-pub returns-in-Free-clause-sound : goal.returns-in-Free-clause-sound
-returns-in-Free-clause-sound g c = c.release.ensures.stays.ready.0
 
 pub allocate-requires-clause-units : goal.allocate-requires-clause-units
 allocate-requires-clause-units g c = (subst IsRequest c.in-Alloc.is c.requires.request).1

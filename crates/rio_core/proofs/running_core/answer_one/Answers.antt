@@ -151,42 +151,6 @@ returns-in-Txns-clause-ends g c = ends_by_well _ _ (TellsFault (Ok c.txns_reply.
 pub returns-in-Mkdir-clause-flushed : goal.returns-in-Mkdir-clause-flushed
 returns-in-Mkdir-clause-flushed g c = λ count is done. absurd (subst NoFlush is (file_kept c.args.request.now c.in-Mkdir.is))
 
-pub flush_core-requires-clause-sound : goal.flush_core-requires-clause-sound
-flush_core-requires-clause-sound g c = c.requires.sound
-
-pub flush_core-requires-clause-holds : goal.flush_core-requires-clause-holds
-flush_core-requires-clause-holds g c = c.requires.holds
-
-pub strike-requires-clause-sound : goal.strike-requires-clause-sound
-strike-requires-clause-sound g c = c.requires.sound
-
-pub strike-requires-clause-holds : goal.strike-requires-clause-holds
-strike-requires-clause-holds g c = c.requires.holds
-
-pub arm_store-requires-clause-sound : goal.arm_store-requires-clause-sound
-arm_store-requires-clause-sound g c = c.requires.sound
-
-pub arm_store-requires-clause-holds : goal.arm_store-requires-clause-holds
-arm_store-requires-clause-holds g c = c.requires.holds
-
-pub serve_region-requires-clause-sound : goal.serve_region-requires-clause-sound
-serve_region-requires-clause-sound g c = c.requires.sound
-
-pub serve_region-requires-clause-holds : goal.serve_region-requires-clause-holds
-serve_region-requires-clause-holds g c = c.requires.holds
-
-pub serve_files-requires-clause-sound : goal.serve_files-requires-clause-sound
-serve_files-requires-clause-sound g c = c.requires.sound
-
-pub serve_files-requires-clause-holds : goal.serve_files-requires-clause-holds
-serve_files-requires-clause-holds g c = c.requires.holds
-
-pub serve_region-requires-clause-request : goal.serve_region-requires-clause-request
-serve_region-requires-clause-request g c = c.requires.request
-
-pub serve_files-requires-clause-request : goal.serve_files-requires-clause-request
-serve_files-requires-clause-request g c = c.requires.request
-
 pub serve_region-requires-clause-path : goal.serve_region-requires-clause-path
 serve_region-requires-clause-path g c = regions_path c.in-Begin.path c.as_slice.result.now c.args.request.now c.as_slice.ensures c.in-Begin.is c.requires.request
 
@@ -217,14 +181,8 @@ returns-in-Sync-clause-armed g c = λ step at value is done. absurd (other_call 
 pub returns-in-Sync-clause-unarmed : goal.returns-in-Sync-clause-unarmed
 returns-in-Sync-clause-unarmed g c = λ step at value is refused. refl
 
-pub returns-in-Sync-clause-stopped_on : goal.returns-in-Sync-clause-stopped_on
-returns-in-Sync-clause-stopped_on g c = tt
-
 pub returns-in-Sync-clause-quiet : goal.returns-in-Sync-clause-quiet
 returns-in-Sync-clause-quiet g c = λ none. quiet_refl _
-
-pub returns-in-Sync-clause-sound : goal.returns-in-Sync-clause-sound
-returns-in-Sync-clause-sound g c = c.requires.sound
 
 pub returns-in-Txns-clause-sync : goal.returns-in-Txns-clause-sync
 returns-in-Txns-clause-sync g c = λ is. absurd (other_call c.args.request.now 2 1 refl (of_txns c.args.request.now c.in-Txns.is) (of_sync c.args.request.now is))
@@ -247,14 +205,8 @@ returns-in-Txns-clause-armed g c = λ step at value is done. absurd (other_call 
 pub returns-in-Txns-clause-unarmed : goal.returns-in-Txns-clause-unarmed
 returns-in-Txns-clause-unarmed g c = λ step at value is refused. refl
 
-pub returns-in-Txns-clause-stopped_on : goal.returns-in-Txns-clause-stopped_on
-returns-in-Txns-clause-stopped_on g c = tt
-
 pub returns-in-Txns-clause-quiet : goal.returns-in-Txns-clause-quiet
 returns-in-Txns-clause-quiet g c = λ none. quiet_refl _
-
-pub returns-in-Txns-clause-sound : goal.returns-in-Txns-clause-sound
-returns-in-Txns-clause-sound g c = c.requires.sound
 
 pub returns-in-Flush-clause-sync : goal.returns-in-Flush-clause-sync
 returns-in-Flush-clause-sync g c = λ is. absurd (other_call c.args.request.now 3 1 refl (of_flush c.args.request.now c.in-Flush.count c.in-Flush.is) (of_sync c.args.request.now is))
@@ -277,12 +229,6 @@ returns-in-Flush-clause-armed g c = λ step at value is done. absurd (other_call
 pub returns-in-Flush-clause-unarmed : goal.returns-in-Flush-clause-unarmed
 returns-in-Flush-clause-unarmed g c = λ step at value is refused. absurd (other_call c.args.request.now 3 5 refl (of_flush c.args.request.now c.in-Flush.count c.in-Flush.is) (of_arm c.args.request.now step at value is))
 
-pub returns-in-Flush-clause-sound : goal.returns-in-Flush-clause-sound
-returns-in-Flush-clause-sound g c = c.flush_core.ensures.sound
-
-pub returns-in-Flush-clause-ends : goal.returns-in-Flush-clause-ends
-returns-in-Flush-clause-ends g c = c.flush_core.ensures.ends
-
 pub returns-in-Wild-clause-sync : goal.returns-in-Wild-clause-sync
 returns-in-Wild-clause-sync g c = λ is. absurd (other_call c.args.request.now 4 1 refl (of_wild c.args.request.now c.in-Wild.at c.in-Wild.value c.in-Wild.is) (of_sync c.args.request.now is))
 
@@ -297,12 +243,6 @@ returns-in-Wild-clause-armed g c = λ step at value is done. absurd (other_call 
 
 pub returns-in-Wild-clause-unarmed : goal.returns-in-Wild-clause-unarmed
 returns-in-Wild-clause-unarmed g c = λ step at value is refused. absurd (other_call c.args.request.now 4 5 refl (of_wild c.args.request.now c.in-Wild.at c.in-Wild.value c.in-Wild.is) (of_arm c.args.request.now step at value is))
-
-pub returns-in-Wild-clause-sound : goal.returns-in-Wild-clause-sound
-returns-in-Wild-clause-sound g c = c.strike.ensures.sound
-
-pub returns-in-Wild-clause-ends : goal.returns-in-Wild-clause-ends
-returns-in-Wild-clause-ends g c = c.strike.ensures.ends
 
 pub returns-in-Wild-clause-quiet : goal.returns-in-Wild-clause-quiet
 returns-in-Wild-clause-quiet g c = λ none. c.strike.ensures.quiet
@@ -324,9 +264,6 @@ returns-in-Arm-clause-trapped g c = λ at value is. tt
 
 pub returns-in-Arm-clause-unstruck : goal.returns-in-Arm-clause-unstruck
 returns-in-Arm-clause-unstruck g c = λ at value is refused. absurd (other_call c.args.request.now 5 4 refl (of_arm c.args.request.now c.in-Arm.step c.in-Arm.at c.in-Arm.value c.in-Arm.is) (of_wild c.args.request.now at value is))
-
-pub returns-in-Arm-clause-sound : goal.returns-in-Arm-clause-sound
-returns-in-Arm-clause-sound g c = c.arm_store.ensures.sound
 
 pub returns-in-Arm-clause-quiet : goal.returns-in-Arm-clause-quiet
 returns-in-Arm-clause-quiet g c = λ none. c.arm_store.ensures.quiet
@@ -355,17 +292,8 @@ returns-in-Begin-clause-armed g c = λ step at value is done. absurd (other_call
 pub returns-in-Begin-clause-unarmed : goal.returns-in-Begin-clause-unarmed
 returns-in-Begin-clause-unarmed g c = λ step at value is refused. absurd (other_call c.args.request.now 0 5 refl (of_regions c.in-Begin.path c.args.request.now c.in-Begin.is) (of_arm c.args.request.now step at value is))
 
-pub returns-in-Begin-clause-sound : goal.returns-in-Begin-clause-sound
-returns-in-Begin-clause-sound g c = c.serve_region.ensures.sound
-
-pub returns-in-Begin-clause-ends : goal.returns-in-Begin-clause-ends
-returns-in-Begin-clause-ends g c = c.serve_region.ensures.ends
-
 pub returns-in-Begin-clause-quiet : goal.returns-in-Begin-clause-quiet
 returns-in-Begin-clause-quiet g c = λ none. c.serve_region.ensures.goes.quiet
-
-pub returns-in-Begin-clause-answered : goal.returns-in-Begin-clause-answered
-returns-in-Begin-clause-answered g c = c.serve_region.ensures.answered
 
 pub returns-in-Mkdir-clause-sync : goal.returns-in-Mkdir-clause-sync
 returns-in-Mkdir-clause-sync g c = λ is. absurd (other_call c.args.request.now 0 1 refl (of_files c.args.request.now c.in-Mkdir.is) (of_sync c.args.request.now is))
@@ -388,17 +316,8 @@ returns-in-Mkdir-clause-armed g c = λ step at value is done. absurd (other_call
 pub returns-in-Mkdir-clause-unarmed : goal.returns-in-Mkdir-clause-unarmed
 returns-in-Mkdir-clause-unarmed g c = λ step at value is refused. absurd (other_call c.args.request.now 0 5 refl (of_files c.args.request.now c.in-Mkdir.is) (of_arm c.args.request.now step at value is))
 
-pub returns-in-Mkdir-clause-sound : goal.returns-in-Mkdir-clause-sound
-returns-in-Mkdir-clause-sound g c = c.serve_files.ensures.sound
-
-pub returns-in-Mkdir-clause-ends : goal.returns-in-Mkdir-clause-ends
-returns-in-Mkdir-clause-ends g c = c.serve_files.ensures.ends
-
 pub returns-in-Mkdir-clause-quiet : goal.returns-in-Mkdir-clause-quiet
 returns-in-Mkdir-clause-quiet g c = λ none. c.serve_files.ensures.goes.quiet
-
-pub returns-in-Mkdir-clause-answered : goal.returns-in-Mkdir-clause-answered
-returns-in-Mkdir-clause-answered g c = c.serve_files.ensures.answered
 
 pub returns-in-Sync-clause-ends : goal.returns-in-Sync-clause-ends
 returns-in-Sync-clause-ends g c = ends_by_well _ _ (TellsFault (Ok Done)) _ (le_refl _) refl (λ f. f) (λ stop. true_false (sym stop))
@@ -462,9 +381,6 @@ returns-in-Arm-clause-went g c =
     let e = cache_health (g.M.Machine.contents n) (g.M.Machine.run n) in
     let d = cache_below (g.M.Machine.contents n) (g.M.Machine.run n) in
     subst (λ r. Went (Some r ∷ []) (c.arm_store.result ∷ []) h b e d) (sym c.in-Arm.is) c.arm_store.ensures.went
-
-pub returns-in-Arm-clause-stopped_on : goal.returns-in-Arm-clause-stopped_on
-returns-in-Arm-clause-stopped_on g c = tt
 
 pub returns-in-Arm-clause-armed : goal.returns-in-Arm-clause-armed
 returns-in-Arm-clause-armed g c =

@@ -53,9 +53,6 @@ returns-clause-went g c =
     let arms = subst (λ i. Arms i h b e d) c.in-Some.ensures.0 c.arm.ensures.arms in
     went_armed h b e d c.args.step c.args.at c.args.value arms
 
-pub arm-requires-clause-sound : goal.arm-requires-clause-sound
-arm-requires-clause-sound g c = c.requires.sound
-
 pub arm-requires-clause-place : goal.arm-requires-clause-place
 arm-requires-clause-place g c =
     let m = c.args.core.now.view.v.machine in
@@ -70,12 +67,6 @@ returns-in_default-clause-armed g c = λ done. absurd (refused_done _ refl (ap O
 
 pub returns-in_default-clause-quiet : goal.returns-in_default-clause-quiet
 returns-in_default-clause-quiet g c = quiet_refl _
-
-pub returns-in_default-clause-health : goal.returns-in_default-clause-health
-returns-in_default-clause-health g c = refl
-
-pub returns-in_default-clause-sound : goal.returns-in_default-clause-sound
-returns-in_default-clause-sound g c = c.requires.sound
 
 pub returns-clause-unarmed : goal.returns-clause-unarmed
 returns-clause-unarmed g c = λ refused. absurd (refused_done _ (ap Ok refused) refl)
@@ -106,9 +97,6 @@ returns-clause-health g c =
     let d = cache_below (g.M.Machine.contents n) (g.M.Machine.run n) in
     let arms = subst (λ i. Arms i h b e d) c.in-Some.ensures.0 c.arm.ensures.arms in
     arms.health
-
-pub returns-clause-sound : goal.returns-clause-sound
-returns-clause-sound g c = c.arm.ensures.sound
 
 pub invariant_of-core : goal.invariant_of-core
 invariant_of-core g c = record { in_step = same_step c.args.core.now.view.shape _ _ c.args.core.now.memo (ap (λ (x : Seen). x.words) c.arm.ensures.seen) c.args.core.now.in_step }

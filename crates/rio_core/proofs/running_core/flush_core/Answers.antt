@@ -52,17 +52,8 @@ returns-in-Err-Stopped-clause-answered g c =
     let call = c.flush.ensures in
     λ s holds. flush_stops shape x k y j marks s c.args.count holds.serves (cache_settled _ _ _ c.requires.sound) (flush_leaves shape x k y j holds.serves.ready call.looks call.standing call.firm call.drops call.idle)
 
-pub flush-requires-clause-sound : goal.flush-requires-clause-sound
-flush-requires-clause-sound g c = c.requires.sound
-
-pub flush-requires-clause-idle : goal.flush-requires-clause-idle
-flush-requires-clause-idle g c = c.requires.holds.1.serves.ready.idle
-
 pub returns-in-Ok-clause-flushed : goal.returns-in-Ok-clause-flushed
 returns-in-Ok-clause-flushed g c = λ done. (_, c.in-Ok.ensures.flushed)
-
-pub returns-in-Ok-clause-runs : goal.returns-in-Ok-clause-runs
-returns-in-Ok-clause-runs g c = c.flush.ensures.runs
 
 pub returns-in-Ok-clause-ends : goal.returns-in-Ok-clause-ends
 returns-in-Ok-clause-ends g c =
@@ -72,14 +63,8 @@ returns-in-Ok-clause-ends g c =
     let e = cache_health (g.M.Machine.contents n) (g.M.Machine.run n) in
     flush_well h e _ c.in-Ok.ensures.ends
 
-pub returns-in-Ok-clause-sound : goal.returns-in-Ok-clause-sound
-returns-in-Ok-clause-sound g c = c.flush.ensures.sound
-
 pub returns-in-Err-Fault-clause-flushed : goal.returns-in-Err-Fault-clause-flushed
 returns-in-Err-Fault-clause-flushed g c = λ done. absurd (not_done _ 0 refl done)
-
-pub returns-in-Err-Fault-clause-runs : goal.returns-in-Err-Fault-clause-runs
-returns-in-Err-Fault-clause-runs g c = c.flush.ensures.runs
 
 pub returns-in-Err-Fault-clause-ends : goal.returns-in-Err-Fault-clause-ends
 returns-in-Err-Fault-clause-ends g c =
@@ -89,14 +74,8 @@ returns-in-Err-Fault-clause-ends g c =
     let e = cache_health (g.M.Machine.contents n) (g.M.Machine.run n) in
     flush_fault h e _ c.in-Err-Fault.field-0-is c.in-Err-Fault.ensures.ends
 
-pub returns-in-Err-Fault-clause-sound : goal.returns-in-Err-Fault-clause-sound
-returns-in-Err-Fault-clause-sound g c = c.flush.ensures.sound
-
 pub returns-in-Err-Stopped-clause-flushed : goal.returns-in-Err-Stopped-clause-flushed
 returns-in-Err-Stopped-clause-flushed g c = λ done. absurd (none_done _ _ refl done)
-
-pub returns-in-Err-Stopped-clause-runs : goal.returns-in-Err-Stopped-clause-runs
-returns-in-Err-Stopped-clause-runs g c = c.flush.ensures.runs
 
 pub returns-in-Err-Stopped-clause-ends : goal.returns-in-Err-Stopped-clause-ends
 returns-in-Err-Stopped-clause-ends g c =
@@ -105,9 +84,6 @@ returns-in-Err-Stopped-clause-ends g c =
     let h = cache_health (g.M.Machine.contents m) (g.M.Machine.run m) in
     let e = cache_health (g.M.Machine.contents n) (g.M.Machine.run n) in
     flush_halts h e _ _ c.in-Err-Stopped.field-0-is c.in-Err-Stopped.ensures.ends
-
-pub returns-in-Err-Stopped-clause-sound : goal.returns-in-Err-Stopped-clause-sound
-returns-in-Err-Stopped-clause-sound g c = c.flush.ensures.sound
 
 pub invariant_of-core : goal.invariant_of-core
 invariant_of-core g c = record { in_step = same_step c.args.core.now.view.shape _ _ c.args.core.now.memo c.flush.ensures.looks.words c.args.core.now.in_step }

@@ -38,32 +38,5 @@ returns-in_err-write_ahead-clause-answered g c =
     let j = cache_kept (g.M.Machine.contents n.view.v.machine) n.view.v.tables in
     λ s holds. ahead_answers _ (λ u. Stands n.view.shape y j (crashed u)) s c.args.request.now c.from_residual.result c.from_residual.ensures.0 (c.in_err-write_ahead.ensures.stands s holds)
 
-pub write_ahead-requires-clause-sound : goal.write_ahead-requires-clause-sound
-write_ahead-requires-clause-sound g c = c.requires.sound
-
-pub write_ahead-requires-clause-holds : goal.write_ahead-requires-clause-holds
-write_ahead-requires-clause-holds g c = c.requires.holds
-
-pub answer_region-requires-clause-sound : goal.answer_region-requires-clause-sound
-answer_region-requires-clause-sound g c = c.write_ahead.ensures.sound
-
 pub answer_region-requires-clause-in_step : goal.answer_region-requires-clause-in_step
 answer_region-requires-clause-in_step g c = c.write_ahead.new.core.in_step
-
-pub answer_region-requires-clause-request : goal.answer_region-requires-clause-request
-answer_region-requires-clause-request g c = c.requires.request
-
-pub answer_region-requires-clause-path : goal.answer_region-requires-clause-path
-answer_region-requires-clause-path g c = c.requires.path
-
-pub answer_region-requires-clause-at : goal.answer_region-requires-clause-at
-answer_region-requires-clause-at g c = c.requires.at
-
-pub returns-clause-sound : goal.returns-clause-sound
-returns-clause-sound g c = c.answer_region.ensures.sound
-
-pub returns-in_err-write_ahead-clause-goes : goal.returns-in_err-write_ahead-clause-goes
-returns-in_err-write_ahead-clause-goes g c = c.write_ahead.ensures.goes
-
-pub returns-in_err-write_ahead-clause-sound : goal.returns-in_err-write_ahead-clause-sound
-returns-in_err-write_ahead-clause-sound g c = c.write_ahead.ensures.sound

@@ -109,29 +109,14 @@ returns-in-Changed-clause-went g c =
     let falls = strikes.changes (fell c.wild.result c.args.at h b e d c.in-Changed.is strikes) in
     went_wild h b e d c.args.at c.args.value falls.1 falls.2
 
-pub place_in-requires : goal.place_in-requires
-place_in-requires g c = c.requires.sound
-
-pub wild-requires-clause-sound : goal.wild-requires-clause-sound
-wild-requires-clause-sound g c = c.requires.sound
-
 pub wild-requires-clause-place : goal.wild-requires-clause-place
 wild-requires-clause-place g c =
     let m = c.args.core.now.view.v.machine in
     let b = cache_below (g.M.Machine.contents m) (g.M.Machine.run m) in
     subst (λ n. n < b.memory.protected + b.memory.scratch) (sym c.in-Some.ensures.0) c.in-Some.ensures.1
 
-pub wild-requires-clause-running : goal.wild-requires-clause-running
-wild-requires-clause-running g c = c.requires.holds.1.running
-
-pub returns-in_default-clause-stopped_on : goal.returns-in_default-clause-stopped_on
-returns-in_default-clause-stopped_on g c = tt
-
 pub returns-in_default-clause-unstruck : goal.returns-in_default-clause-unstruck
 returns-in_default-clause-unstruck g c = λ refused. refl
-
-pub returns-in_default-clause-trapped : goal.returns-in_default-clause-trapped
-returns-in_default-clause-trapped g c = tt
 
 pub returns-in_default-clause-struck : goal.returns-in_default-clause-struck
 returns-in_default-clause-struck g c = λ done. absurd (refused_done _ refl done)
@@ -141,12 +126,6 @@ returns-in_default-clause-quiet g c = quiet_refl _
 
 pub returns-in_default-clause-ends : goal.returns-in_default-clause-ends
 returns-in_default-clause-ends g c = reply_well _ _ (RefusedBy 19) refl (λ f. f)
-
-pub returns-in_default-clause-sound : goal.returns-in_default-clause-sound
-returns-in_default-clause-sound g c = c.requires.sound
-
-pub returns-in-Trapped-clause-went : goal.returns-in-Trapped-clause-went
-returns-in-Trapped-clause-went g c = tt
 
 pub returns-in-Trapped-clause-unstruck : goal.returns-in-Trapped-clause-unstruck
 returns-in-Trapped-clause-unstruck g c = λ refused. absurd (stopped_reply _ _ _ refl refused)
@@ -171,17 +150,8 @@ returns-in-Trapped-clause-quiet g c =
     let strikes = subst (λ i. Strikes i c.wild.result h b e d) c.in-Some.ensures.0 c.wild.ensures.strikes in
     trap_quiet b d c.args.at (strikes.traps (trapped_at c.wild.result c.args.at h b e d c.in-Trapped.is strikes)).2
 
-pub returns-in-Trapped-clause-sound : goal.returns-in-Trapped-clause-sound
-returns-in-Trapped-clause-sound g c = c.wild.ensures.sound
-
-pub returns-in-Changed-clause-stopped_on : goal.returns-in-Changed-clause-stopped_on
-returns-in-Changed-clause-stopped_on g c = tt
-
 pub returns-in-Changed-clause-unstruck : goal.returns-in-Changed-clause-unstruck
 returns-in-Changed-clause-unstruck g c = λ refused. absurd (refused_done _ refused refl)
-
-pub returns-in-Changed-clause-trapped : goal.returns-in-Changed-clause-trapped
-returns-in-Changed-clause-trapped g c = tt
 
 pub returns-in-Changed-clause-struck : goal.returns-in-Changed-clause-struck
 returns-in-Changed-clause-struck g c =
@@ -210,9 +180,6 @@ returns-in-Changed-clause-ends g c =
     let d = cache_below (g.M.Machine.contents n) (g.M.Machine.run n) in
     let strikes = subst (λ i. Strikes i c.wild.result h b e d) c.in-Some.ensures.0 c.wild.ensures.strikes in
     reply_well h e Done (strikes.changes (fell c.wild.result c.args.at h b e d c.in-Changed.is strikes)).1 (λ f. f)
-
-pub returns-in-Changed-clause-sound : goal.returns-in-Changed-clause-sound
-returns-in-Changed-clause-sound g c = c.wild.ensures.sound
 
 pub invariant_of-core : goal.invariant_of-core
 invariant_of-core g c = record { in_step = same_step c.args.core.now.view.shape _ _ c.args.core.now.memo (ap (λ (x : Seen). x.words) c.wild.ensures.seen) c.args.core.now.in_step }

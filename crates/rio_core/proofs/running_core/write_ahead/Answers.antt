@@ -38,8 +38,5 @@ returns-clause-stands g c =
     let call = c.write_ahead.ensures in
     λ s holds. ahead_stands shape x k y j marks s c.write_ahead.result holds.serves (cache_settled _ _ _ c.requires.sound) (ahead_leaves shape x k h b y j e d holds.serves.ready call.looks call.drops call.passes)
 
-pub returns-clause-goes : goal.returns-clause-goes
-returns-clause-goes g c = c.write_ahead.ensures.passes.goes
-
 pub invariant_of-core : goal.invariant_of-core
 invariant_of-core g c = record { in_step = same_step c.args.core.now.view.shape _ _ c.args.core.now.memo c.write_ahead.ensures.looks.words c.args.core.now.in_step }

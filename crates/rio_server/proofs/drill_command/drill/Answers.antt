@@ -1,9 +1,6 @@
 use Rattle.std.proofs.Common.{arith, inl, inr}
 use Rattle.rio_server.proofs.drill_command.drill.Goals as goal
 
-pub tell_summary-requires : goal.tell_summary-requires
-tell_summary-requires g c = c.in-Ok.ensures.few
-
 pub returns-in-Ok-clause-run : goal.returns-in-Ok-clause-run
 returns-in-Ok-clause-run g c = inl (c.in-Ok.transcript, c.in-Ok.ensures.legal, c.tell_summary.ensures.tells)
 

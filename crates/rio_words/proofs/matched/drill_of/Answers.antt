@@ -4,6 +4,3 @@ use Rattle.rio_words.proofs.matched.drill_of.Goals as goal
 
 pub returns-in_default : goal.returns-in_default
 returns-in_default c = none_drill (found_in c.args.matches.now) c.in_default.ensures
-
-pub returns : goal.returns
-returns c = c.in-Some.ensures

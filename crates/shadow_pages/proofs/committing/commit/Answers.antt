@@ -6,12 +6,6 @@ use Rattle.shadow_pages.proofs.Exits.{at_err, ends_told, not_ok, same_names}
 use Rattle.shadow_pages.proofs.Gates.{coherent_shut, committed_by, gate_firm}
 use Rattle.shadow_pages.proofs.committing.commit.Goals as goal
 
-pub store_gate-requires-clause-coherent : goal.store_gate-requires-clause-coherent
-store_gate-requires-clause-coherent g c = c.requires.coherent
-
-pub store_gate-requires-clause-closed : goal.store_gate-requires-clause-closed
-store_gate-requires-clause-closed g c = c.requires.closed
-
 pub returns-in_err-store_gate-clause-committed : goal.returns-in_err-store_gate-clause-committed
 returns-in_err-store_gate-clause-committed g c = not_ok _ c.from_residual.result c.from_residual.ensures.0
 
@@ -24,20 +18,11 @@ returns-in_err-store_gate-clause-entries g c = λ i past. ap (λ (x : Contents).
 pub returns-in_err-store_gate-clause-names : goal.returns-in_err-store_gate-clause-names
 returns-in_err-store_gate-clause-names g c = same_names _ _ c.in_err-store_gate.ensures.same
 
-pub returns-in_err-store_gate-clause-rest : goal.returns-in_err-store_gate-clause-rest
-returns-in_err-store_gate-clause-rest g c = c.in_err-store_gate.ensures.stores.rest
-
 pub returns-in_err-store_gate-clause-coherent : goal.returns-in_err-store_gate-clause-coherent
 returns-in_err-store_gate-clause-coherent g c = λ n s. subst (λ (x : Contents). Coherent x n) (sym c.in_err-store_gate.ensures.same) s
 
 pub returns-in_err-store_gate-clause-firm : goal.returns-in_err-store_gate-clause-firm
 returns-in_err-store_gate-clause-firm g c = λ b e. subst (λ (x : Contents). is_loose x b ≡ true) c.in_err-store_gate.ensures.same e
-
-pub returns-in_err-store_gate-clause-closed : goal.returns-in_err-store_gate-clause-closed
-returns-in_err-store_gate-clause-closed g c = c.in_err-store_gate.ensures.stores.closed
-
-pub returns-in_err-store_gate-clause-lasts : goal.returns-in_err-store_gate-clause-lasts
-returns-in_err-store_gate-clause-lasts g c = c.in_err-store_gate.ensures.stores.lasts
 
 pub returns-in_err-store_gate-clause-ends : goal.returns-in_err-store_gate-clause-ends
 returns-in_err-store_gate-clause-ends g c = ends_told _ _ _ _ refl c.from_residual.ensures.0 c.in_err-store_gate.ensures.ends
@@ -45,29 +30,14 @@ returns-in_err-store_gate-clause-ends g c = ends_told _ _ _ _ refl c.from_residu
 pub returns-clause-committed : goal.returns-clause-committed
 returns-clause-committed g c = committed_by _ _ _ c.requires.coherent c.in_ok-store_gate.ensures.stored
 
-pub returns-clause-same : goal.returns-clause-same
-returns-clause-same g c = tt
-
 pub returns-clause-entries : goal.returns-clause-entries
 returns-clause-entries g c = λ i past. gate_entries 0 _ _ i c.in_ok-store_gate.ensures.gated past
 
 pub returns-clause-names : goal.returns-clause-names
 returns-clause-names g c = gate_names 0 _ _ c.in_ok-store_gate.ensures.gated
 
-pub returns-clause-rest : goal.returns-clause-rest
-returns-clause-rest g c = c.in_ok-store_gate.ensures.stores.rest
-
 pub returns-clause-coherent : goal.returns-clause-coherent
 returns-clause-coherent g c = λ n s. coherent_shut n _ _ c.in_ok-store_gate.ensures.stores.rest c.in_ok-store_gate.ensures.gated s
 
 pub returns-clause-firm : goal.returns-clause-firm
 returns-clause-firm g c = λ b e. gate_firm 0 _ _ b c.in_ok-store_gate.ensures.stores.rest c.in_ok-store_gate.ensures.gated e
-
-pub returns-clause-closed : goal.returns-clause-closed
-returns-clause-closed g c = c.in_ok-store_gate.ensures.stores.closed
-
-pub returns-clause-lasts : goal.returns-clause-lasts
-returns-clause-lasts g c = c.in_ok-store_gate.ensures.stores.lasts
-
-pub returns-clause-ends : goal.returns-clause-ends
-returns-clause-ends g c = c.in_ok-store_gate.ensures.ends

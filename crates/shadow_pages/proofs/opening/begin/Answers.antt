@@ -6,23 +6,8 @@ use Rattle.shadow_pages.proofs.Exits.{all_bare, at_err, clears_same, ends_told, 
 use Rattle.shadow_pages.proofs.Steps.{coherent_then, stores_trans}
 use Rattle.shadow_pages.proofs.opening.begin.Goals as goal
 
-pub clear_shadows-requires-clause-coherent : goal.clear_shadows-requires-clause-coherent
-clear_shadows-requires-clause-coherent g c = c.requires.coherent
-
-pub clear_shadows-requires-clause-closed : goal.clear_shadows-requires-clause-closed
-clear_shadows-requires-clause-closed g c = c.requires.closed
-
-pub clear_shadows-requires-clause-shut : goal.clear_shadows-requires-clause-shut
-clear_shadows-requires-clause-shut g c = c.requires.shut
-
-pub clear_shadows-requires-clause-within : goal.clear_shadows-requires-clause-within
-clear_shadows-requires-clause-within g c = c.requires.within
-
 pub open_gate-requires-clause-coherent : goal.open_gate-requires-clause-coherent
 open_gate-requires-clause-coherent g c = coherent_then _ _ _ _ c.requires.coherent c.in_ok-clear_shadows.ensures.clears.keeps c.in_ok-clear_shadows.ensures.ends.steps.scratch_count
-
-pub open_gate-requires-clause-closed : goal.open_gate-requires-clause-closed
-open_gate-requires-clause-closed g c = c.in_ok-clear_shadows.ensures.clears.stores.closed
 
 pub open_gate-requires-clause-bare : goal.open_gate-requires-clause-bare
 open_gate-requires-clause-bare g c = all_bare _ _ _ c.in_ok-clear_shadows.ensures.clears c.requires.listed c.in_ok-clear_shadows.ensures.cleared
@@ -34,27 +19,6 @@ returns-in_err-clear_shadows-clause-opened g c = not_ok _ c.from_residual.result
 
 pub returns-in_err-clear_shadows-clause-cut : goal.returns-in_err-clear_shadows-clause-cut
 returns-in_err-clear_shadows-clause-cut g c = at_err c.from_residual.result c.from_residual.ensures.0 c.in_err-clear_shadows.ensures.clears.keeps
-
-pub returns-in_err-clear_shadows-clause-shadows : goal.returns-in_err-clear_shadows-clause-shadows
-returns-in_err-clear_shadows-clause-shadows g c = c.in_err-clear_shadows.ensures.clears.shadows
-
-pub returns-in_err-clear_shadows-clause-names : goal.returns-in_err-clear_shadows-clause-names
-returns-in_err-clear_shadows-clause-names g c = c.in_err-clear_shadows.ensures.clears.names
-
-pub returns-in_err-clear_shadows-clause-rest : goal.returns-in_err-clear_shadows-clause-rest
-returns-in_err-clear_shadows-clause-rest g c = c.in_err-clear_shadows.ensures.clears.stores.rest
-
-pub returns-in_err-clear_shadows-clause-coherent : goal.returns-in_err-clear_shadows-clause-coherent
-returns-in_err-clear_shadows-clause-coherent g c = c.in_err-clear_shadows.ensures.clears.keeps.coherent
-
-pub returns-in_err-clear_shadows-clause-firm : goal.returns-in_err-clear_shadows-clause-firm
-returns-in_err-clear_shadows-clause-firm g c = c.in_err-clear_shadows.ensures.clears.keeps.firm
-
-pub returns-in_err-clear_shadows-clause-closed : goal.returns-in_err-clear_shadows-clause-closed
-returns-in_err-clear_shadows-clause-closed g c = c.in_err-clear_shadows.ensures.clears.stores.closed
-
-pub returns-in_err-clear_shadows-clause-lasts : goal.returns-in_err-clear_shadows-clause-lasts
-returns-in_err-clear_shadows-clause-lasts g c = c.in_err-clear_shadows.ensures.clears.stores.lasts
 
 pub returns-in_err-clear_shadows-clause-ends : goal.returns-in_err-clear_shadows-clause-ends
 returns-in_err-clear_shadows-clause-ends g c = ends_told _ _ _ _ refl c.from_residual.ensures.0 c.in_err-clear_shadows.ensures.ends
@@ -82,9 +46,6 @@ returns-in_err-open_gate-clause-coherent g c = (clears_same _ _ _ c.in_err-open_
 pub returns-in_err-open_gate-clause-firm : goal.returns-in_err-open_gate-clause-firm
 returns-in_err-open_gate-clause-firm g c = (clears_same _ _ _ c.in_err-open_gate.ensures.same c.in_ok-clear_shadows.ensures.clears).keeps.firm
 
-pub returns-in_err-open_gate-clause-closed : goal.returns-in_err-open_gate-clause-closed
-returns-in_err-open_gate-clause-closed g c = c.in_err-open_gate.ensures.stores.closed
-
 pub returns-in_err-open_gate-clause-lasts : goal.returns-in_err-open_gate-clause-lasts
 returns-in_err-open_gate-clause-lasts g c = (clears_same _ _ _ c.in_err-open_gate.ensures.same c.in_ok-clear_shadows.ensures.clears).stores.lasts
 
@@ -95,9 +56,6 @@ returns-in_err-open_gate-clause-ends g c = ends_err _ _ _ _ _ refl c.from_residu
 
 pub returns-clause-opened : goal.returns-clause-opened
 returns-clause-opened g c = opened_then _ _ _ c.in_ok-clear_shadows.ensures.clears c.in_ok-open_gate.ensures.opened
-
-pub returns-clause-cut : goal.returns-clause-cut
-returns-clause-cut g c = tt
 
 pub returns-clause-shadows : goal.returns-clause-shadows
 returns-clause-shadows g c = loses_then _ _ _ c.in_ok-clear_shadows.ensures.clears.names c.in_ok-clear_shadows.ensures.clears.shadows c.in_ok-open_gate.ensures.shadows
@@ -113,9 +71,6 @@ returns-clause-coherent g c = λ n s. c.in_ok-open_gate.ensures.coherent n (c.in
 
 pub returns-clause-firm : goal.returns-clause-firm
 returns-clause-firm g c = λ b e. c.in_ok-clear_shadows.ensures.clears.keeps.firm b (c.in_ok-open_gate.ensures.firm b e)
-
-pub returns-clause-closed : goal.returns-clause-closed
-returns-clause-closed g c = c.in_ok-open_gate.ensures.stores.closed
 
 pub returns-clause-lasts : goal.returns-clause-lasts
 returns-clause-lasts g c = (stores_trans _ _ _ c.in_ok-clear_shadows.ensures.clears.stores c.in_ok-open_gate.ensures.stores).lasts

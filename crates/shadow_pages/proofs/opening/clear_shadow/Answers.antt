@@ -11,9 +11,6 @@ use Rattle.shadow_pages.proofs.opening.clear_shadow.Goals as goal
 pub read_entry-entry-requires-clause-layout : goal.read_entry-entry-requires-clause-layout
 read_entry-entry-requires-clause-layout g c = layout_now _ _ c.requires.coherent
 
-pub read_entry-entry-requires-clause-entry : goal.read_entry-entry-requires-clause-entry
-read_entry-entry-requires-clause-entry g c = c.requires.entry
-
 pub returns-then-not-is_valid-clause-clears : goal.returns-then-not-is_valid-clause-clears
 returns-then-not-is_valid-clause-clears g c = clears_refl _ c.requires.closed
 
@@ -54,6 +51,3 @@ returns-clause-clears g c =
 
 pub returns-clause-cleared : goal.returns-clause-cleared
 returns-clause-cleared g c = record { bare = λ v. ap (λ (x : Entry). x.shadow) c.in_ok-set_shadow.ensures.entry }
-
-pub returns-clause-ends : goal.returns-clause-ends
-returns-clause-ends g c = c.in_ok-set_shadow.ensures.changes.ends

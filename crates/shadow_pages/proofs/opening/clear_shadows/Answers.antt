@@ -24,9 +24,6 @@ loop-i-preserved g c =
 pub returns-in_err-clear_shadow-clause-ends : goal.returns-in_err-clear_shadow-clause-ends
 returns-in_err-clear_shadow-clause-ends g c = ends_err _ _ _ _ _ refl c.from_residual.ensures.0 c.loop-i.invariant.steps c.in_err-clear_shadow.ensures.ends
 
-pub clear_shadow-requires-clause-closed : goal.clear_shadow-requires-clause-closed
-clear_shadow-requires-clause-closed g c = c.loop-i.invariant.clears.stores.closed
-
 pub clear_shadow-requires-clause-shut : goal.clear_shadow-requires-clause-shut
 clear_shadow-requires-clause-shut g c = λ e. c.requires.shut (sym (c.loop-i.invariant.clears.keeps.header 4 (omega arith)) ∙ e)
 
@@ -35,9 +32,6 @@ loop-i-init g c = record { clears = clears_refl _ c.requires.closed; cleared = �
 
 pub returns-in_err-clear_shadow-clause-cleared : goal.returns-in_err-clear_shadow-clause-cleared
 returns-in_err-clear_shadow-clause-cleared g c = not_ok _ c.from_residual.result c.from_residual.ensures.0
-
-pub returns-clause-clears : goal.returns-clause-clears
-returns-clause-clears g c = c.loop-i.invariant.clears
 
 pub returns-clause-ends : goal.returns-clause-ends
 returns-clause-ends g c = record { steps = c.loop-i.invariant.steps; told = λ e. absurd (not_stopped e); runs = λ n. c.loop-i.invariant.runs }

@@ -6,12 +6,6 @@ use Rattle.shadow_pages.proofs.Exits.{at_err, ends_told, not_ok, same_names, sam
 use Rattle.shadow_pages.proofs.Gates.{coherent_opened, gate_firm, opened_by}
 use Rattle.shadow_pages.proofs.opening.open_gate.Goals as goal
 
-pub store_gate-requires-clause-coherent : goal.store_gate-requires-clause-coherent
-store_gate-requires-clause-coherent g c = c.requires.coherent
-
-pub store_gate-requires-clause-closed : goal.store_gate-requires-clause-closed
-store_gate-requires-clause-closed g c = c.requires.closed
-
 pub returns-in_err-store_gate-clause-opened : goal.returns-in_err-store_gate-clause-opened
 returns-in_err-store_gate-clause-opened g c = not_ok _ c.from_residual.result c.from_residual.ensures.0
 
@@ -23,9 +17,6 @@ returns-in_err-store_gate-clause-shadows g c = same_shadows _ _ c.in_err-store_g
 
 pub returns-in_err-store_gate-clause-names : goal.returns-in_err-store_gate-clause-names
 returns-in_err-store_gate-clause-names g c = same_names _ _ c.in_err-store_gate.ensures.same
-
-pub returns-in_err-store_gate-clause-stores : goal.returns-in_err-store_gate-clause-stores
-returns-in_err-store_gate-clause-stores g c = c.in_err-store_gate.ensures.stores
 
 pub returns-in_err-store_gate-clause-coherent : goal.returns-in_err-store_gate-clause-coherent
 returns-in_err-store_gate-clause-coherent g c = λ n s. subst (λ (x : Contents). Coherent x n) (sym c.in_err-store_gate.ensures.same) s
@@ -39,23 +30,14 @@ returns-in_err-store_gate-clause-ends g c = ends_told _ _ _ _ refl c.from_residu
 pub returns-clause-opened : goal.returns-clause-opened
 returns-clause-opened g c = opened_by _ _ _ c.requires.coherent c.requires.bare c.in_ok-store_gate.ensures.stored
 
-pub returns-clause-same : goal.returns-clause-same
-returns-clause-same g c = tt
-
 pub returns-clause-shadows : goal.returns-clause-shadows
 returns-clause-shadows g c = λ k less. gate_shadow 1 _ _ k c.in_ok-store_gate.ensures.gated
 
 pub returns-clause-names : goal.returns-clause-names
 returns-clause-names g c = gate_names 1 _ _ c.in_ok-store_gate.ensures.gated
 
-pub returns-clause-stores : goal.returns-clause-stores
-returns-clause-stores g c = c.in_ok-store_gate.ensures.stores
-
 pub returns-clause-coherent : goal.returns-clause-coherent
 returns-clause-coherent g c = λ n s. coherent_opened n _ _ c.in_ok-store_gate.ensures.stores.rest c.in_ok-store_gate.ensures.gated c.requires.bare s
 
 pub returns-clause-firm : goal.returns-clause-firm
 returns-clause-firm g c = λ b e. gate_firm 1 _ _ b c.in_ok-store_gate.ensures.stores.rest c.in_ok-store_gate.ensures.gated e
-
-pub returns-clause-ends : goal.returns-clause-ends
-returns-clause-ends g c = c.in_ok-store_gate.ensures.ends

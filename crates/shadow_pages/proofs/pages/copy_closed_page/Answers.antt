@@ -3,20 +3,11 @@ use Rattle.rio_base.specs.Machine.{Contents}
 use Rattle.shadow_pages.proofs.ClosedPages.{closed_ends, closed_stores, copied_all, copied_front, words_before}
 use Rattle.shadow_pages.proofs.pages.copy_closed_page.Goals as goal
 
-pub open_page-requires-clause-closed : goal.open_page-requires-clause-closed
-open_page-requires-clause-closed g c = c.requires.closed
-
-pub open_page-requires-clause-protected : goal.open_page-requires-clause-protected
-open_page-requires-clause-protected g c = c.requires.to
-
 pub copy_page-copied-requires-clause-from : goal.copy_page-copied-requires-clause-from
 copy_page-copied-requires-clause-from g c = omega (arith, c.requires.from, ap (λ (xs : List ℕ). length xs) (words_before _ (g.M.Machine.contents c.args.m.now) _ c.open_page.ensures.contents))
 
 pub copy_page-copied-requires-clause-to : goal.copy_page-copied-requires-clause-to
 copy_page-copied-requires-clause-to g c = ap (λ (x : Contents). x.open_page) c.open_page.ensures.contents
-
-pub copy_page-copied-requires-clause-two : goal.copy_page-copied-requires-clause-two
-copy_page-copied-requires-clause-two g c = c.requires.two
 
 pub returns-clause-copied : goal.returns-clause-copied
 returns-clause-copied g c = copied_all c.copy_page-copied.result c.args.from.0 c.args.to.0 (Some c.args.to.0) (g.M.Machine.contents c.args.m.now) _ _ _ (record { opened = c.open_page.ensures.contents; stored = c.copy_page-copied.ensures.rest; closed = c.close_page.ensures.contents }) c.copy_page-copied.ensures.copied

@@ -10,9 +10,6 @@ use Rattle.shadow_pages.proofs.shadowing.give_shadow.Goals as goal
 pub set_shadow-requires-clause-can : goal.set_shadow-requires-clause-can
 set_shadow-requires-clause-can g c = record { layout = layout_now _ _ c.requires.coherent; closed = c.requires.closed; entry = c.requires.can.valid.within }
 
-pub set_shadow-requires-clause-valid : goal.set_shadow-requires-clause-valid
-set_shadow-requires-clause-valid g c = c.requires.can.valid.valid
-
 pub returns-in_err-set_shadow-clause-keeps : goal.returns-in_err-set_shadow-clause-keeps
 returns-in_err-set_shadow-clause-keeps g c = keeps_same _ _ c.in_err-set_shadow.ensures.same
 
@@ -40,9 +37,6 @@ returns-clause-keeps g c = keeps_given c.args.k c.args.s _ _ c.in_ok-set_shadow.
 pub returns-clause-given : goal.returns-clause-given
 returns-clause-given g c = ap (λ (x : Entry). x.shadow) c.in_ok-set_shadow.ensures.entry
 
-pub returns-clause-cut : goal.returns-clause-cut
-returns-clause-cut g c = tt
-
 pub returns-clause-others : goal.returns-clause-others
 returns-clause-others g c = λ j ne less. other_shadow c.args.k j _ _ c.in_ok-set_shadow.ensures.changes.one_entry ne
 
@@ -51,6 +45,3 @@ returns-clause-names g c = names_set c.args.k c.args.s _ _ c.in_ok-set_shadow.en
 
 pub returns-clause-stores : goal.returns-clause-stores
 returns-clause-stores g c = stores_entry _ _ _ _ _ _ c.requires.closed c.in_ok-set_shadow.ensures.changes
-
-pub returns-clause-ends : goal.returns-clause-ends
-returns-clause-ends g c = c.in_ok-set_shadow.ensures.changes.ends

@@ -6,31 +6,10 @@ use Rattle.shadow_pages.proofs.Exits.{at_err, ends_told, not_ok}
 use Rattle.shadow_pages.proofs.Steps.{keeps_then, stores_trans}
 use Rattle.shadow_pages.proofs.shadowing.shadow.Goals as goal
 
-pub fill_shadow-requires-clause-coherent : goal.fill_shadow-requires-clause-coherent
-fill_shadow-requires-clause-coherent g c = c.requires.coherent
-
-pub fill_shadow-requires-clause-closed : goal.fill_shadow-requires-clause-closed
-fill_shadow-requires-clause-closed g c = c.requires.closed
-
 pub fill_shadow-requires-clause-can : goal.fill_shadow-requires-clause-can
 fill_shadow-requires-clause-can g c = record { valid = c.requires.valid; metadata = c.requires.metadata; bare = c.requires.bare; from = c.requires.from; to = c.requires.to; free = c.requires.free }
 
-pub give_shadow-requires-clause-coherent : goal.give_shadow-requires-clause-coherent
-give_shadow-requires-clause-coherent g c = c.in_ok-fill_shadow.ensures.coherent
-
-pub give_shadow-requires-clause-closed : goal.give_shadow-requires-clause-closed
-give_shadow-requires-clause-closed g c = c.in_ok-fill_shadow.ensures.stores.closed
-
-pub give_shadow-requires-clause-can : goal.give_shadow-requires-clause-can
-give_shadow-requires-clause-can g c = c.in_ok-fill_shadow.ensures.can
-
-pub give_shadow-requires-clause-copied : goal.give_shadow-requires-clause-copied
-give_shadow-requires-clause-copied g c = c.in_ok-fill_shadow.ensures.copied
-
 -- ---- no shadow is filled
-
-pub returns-in_err-fill_shadow-clause-keeps : goal.returns-in_err-fill_shadow-clause-keeps
-returns-in_err-fill_shadow-clause-keeps g c = c.in_err-fill_shadow.ensures.keeps
 
 pub returns-in_err-fill_shadow-clause-given : goal.returns-in_err-fill_shadow-clause-given
 returns-in_err-fill_shadow-clause-given g c = not_ok _ c.from_residual.result c.from_residual.ensures.0
@@ -40,18 +19,6 @@ returns-in_err-fill_shadow-clause-cut g c = at_err c.from_residual.result c.from
 
 pub returns-in_err-fill_shadow-clause-others : goal.returns-in_err-fill_shadow-clause-others
 returns-in_err-fill_shadow-clause-others g c = λ j ne less. c.in_err-fill_shadow.ensures.shadows j less
-
-pub returns-in_err-fill_shadow-clause-names : goal.returns-in_err-fill_shadow-clause-names
-returns-in_err-fill_shadow-clause-names g c = c.in_err-fill_shadow.ensures.names
-
-pub returns-in_err-fill_shadow-clause-rest : goal.returns-in_err-fill_shadow-clause-rest
-returns-in_err-fill_shadow-clause-rest g c = c.in_err-fill_shadow.ensures.stores.rest
-
-pub returns-in_err-fill_shadow-clause-closed : goal.returns-in_err-fill_shadow-clause-closed
-returns-in_err-fill_shadow-clause-closed g c = c.in_err-fill_shadow.ensures.stores.closed
-
-pub returns-in_err-fill_shadow-clause-lasts : goal.returns-in_err-fill_shadow-clause-lasts
-returns-in_err-fill_shadow-clause-lasts g c = c.in_err-fill_shadow.ensures.stores.lasts
 
 pub returns-in_err-fill_shadow-clause-ends : goal.returns-in_err-fill_shadow-clause-ends
 returns-in_err-fill_shadow-clause-ends g c = ends_told _ _ _ _ refl c.from_residual.ensures.0 c.in_err-fill_shadow.ensures.ends
@@ -78,9 +45,6 @@ returns-in_err-give_shadow-clause-names g c = same_names_trans _ _ _ c.in_ok-fil
 pub returns-in_err-give_shadow-clause-rest : goal.returns-in_err-give_shadow-clause-rest
 returns-in_err-give_shadow-clause-rest g c = (stores_trans _ _ _ c.in_ok-fill_shadow.ensures.stores c.in_err-give_shadow.ensures.stores).rest
 
-pub returns-in_err-give_shadow-clause-closed : goal.returns-in_err-give_shadow-clause-closed
-returns-in_err-give_shadow-clause-closed g c = c.in_err-give_shadow.ensures.stores.closed
-
 pub returns-in_err-give_shadow-clause-lasts : goal.returns-in_err-give_shadow-clause-lasts
 returns-in_err-give_shadow-clause-lasts g c = (stores_trans _ _ _ c.in_ok-fill_shadow.ensures.stores c.in_err-give_shadow.ensures.stores).lasts
 
@@ -92,12 +56,6 @@ returns-in_err-give_shadow-clause-ends g c = ends_err _ _ _ _ _ refl c.from_resi
 pub returns-clause-keeps : goal.returns-clause-keeps
 returns-clause-keeps g c = keeps_then _ _ _ c.in_ok-fill_shadow.ensures.keeps c.in_ok-give_shadow.ensures.keeps
 
-pub returns-clause-given : goal.returns-clause-given
-returns-clause-given g c = c.in_ok-give_shadow.ensures.given
-
-pub returns-clause-cut : goal.returns-clause-cut
-returns-clause-cut g c = tt
-
 pub returns-clause-others : goal.returns-clause-others
 returns-clause-others g c =
     let was = c.in_ok-fill_shadow.ensures in
@@ -108,9 +66,6 @@ returns-clause-names g c = same_names_trans _ _ _ c.in_ok-fill_shadow.ensures.na
 
 pub returns-clause-rest : goal.returns-clause-rest
 returns-clause-rest g c = (stores_trans _ _ _ c.in_ok-fill_shadow.ensures.stores c.in_ok-give_shadow.ensures.stores).rest
-
-pub returns-clause-closed : goal.returns-clause-closed
-returns-clause-closed g c = c.in_ok-give_shadow.ensures.stores.closed
 
 pub returns-clause-lasts : goal.returns-clause-lasts
 returns-clause-lasts g c = (stores_trans _ _ _ c.in_ok-fill_shadow.ensures.stores c.in_ok-give_shadow.ensures.stores).lasts

@@ -10,9 +10,6 @@ use Rattle.shadow_pages.proofs.undoing.restore_frame.Goals as goal
 pub read_entry-entry-requires-clause-layout : goal.read_entry-entry-requires-clause-layout
 read_entry-entry-requires-clause-layout g c = layout_now _ _ c.requires.coherent
 
-pub read_entry-entry-requires-clause-entry : goal.read_entry-entry-requires-clause-entry
-read_entry-entry-requires-clause-entry g c = c.requires.entry
-
 pub returns-then-not-is_valid-clause-restores : goal.returns-then-not-is_valid-clause-restores
 returns-then-not-is_valid-clause-restores g c = restores_refl _
 
@@ -37,23 +34,5 @@ returns-then-entry-eq0-clause-stores g c = stores_refl _ c.requires.closed
 pub returns-then-entry-eq0-clause-ends : goal.returns-then-entry-eq0-clause-ends
 returns-then-entry-eq0-clause-ends g c = ends_none _ _ (λ e. true_false (sym e))
 
-pub copy_back-requires-clause-coherent : goal.copy_back-requires-clause-coherent
-copy_back-requires-clause-coherent g c = c.requires.coherent
-
-pub copy_back-requires-clause-closed : goal.copy_back-requires-clause-closed
-copy_back-requires-clause-closed g c = c.requires.closed
-
 pub copy_back-requires-clause-has : goal.copy_back-requires-clause-has
 copy_back-requires-clause-has g c = record { valid = record { within = c.requires.entry; valid = ap (λ (x : Entry). is_valid x.tag) (sym c.read_entry-entry.ensures) ∙ sym c.is_valid.ensures ∙ c.if-not-is_valid.false }; updating = c.requires.updating; shadow = ap (λ (x : Entry). x.shadow) (sym c.read_entry-entry.ensures); some = c.if-entry-eq0.false }
-
-pub returns-clause-restores : goal.returns-clause-restores
-returns-clause-restores g c = c.copy_back.ensures.restores
-
-pub returns-clause-restored : goal.returns-clause-restored
-returns-clause-restored g c = c.copy_back.ensures.restored
-
-pub returns-clause-stores : goal.returns-clause-stores
-returns-clause-stores g c = c.copy_back.ensures.stores
-
-pub returns-clause-ends : goal.returns-clause-ends
-returns-clause-ends g c = c.copy_back.ensures.ends

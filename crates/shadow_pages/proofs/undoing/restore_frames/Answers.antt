@@ -29,9 +29,6 @@ loop-i-preserved g c =
 pub returns-in_err-restore_frame-clause-ends : goal.returns-in_err-restore_frame-clause-ends
 returns-in_err-restore_frame-clause-ends g c = ends_err _ _ _ _ _ refl c.from_residual.ensures.0 c.loop-i.invariant.steps c.in_err-restore_frame.ensures.ends
 
-pub restore_frame-requires-clause-closed : goal.restore_frame-requires-clause-closed
-restore_frame-requires-clause-closed g c = c.loop-i.invariant.stores.closed
-
 pub restore_frame-requires-clause-updating : goal.restore_frame-requires-clause-updating
 restore_frame-requires-clause-updating g c = restores_gate _ _ c.loop-i.invariant.restores ∙ c.requires.updating
 
@@ -40,12 +37,6 @@ loop-i-init g c = record { restores = restores_refl _; restored = λ j less. abs
 
 pub returns-in_err-restore_frame-clause-restored : goal.returns-in_err-restore_frame-clause-restored
 returns-in_err-restore_frame-clause-restored g c = not_ok _ c.from_residual.result c.from_residual.ensures.0
-
-pub returns-clause-restores : goal.returns-clause-restores
-returns-clause-restores g c = c.loop-i.invariant.restores
-
-pub returns-clause-stores : goal.returns-clause-stores
-returns-clause-stores g c = c.loop-i.invariant.stores
 
 pub returns-clause-ends : goal.returns-clause-ends
 returns-clause-ends g c = record { steps = c.loop-i.invariant.steps; told = λ e. absurd (not_stopped e); runs = λ n. c.loop-i.invariant.runs }

@@ -63,21 +63,6 @@ returns-in_err-commit-clause-ends g c = ends_err _ _ _ _ _ refl c.from_residual-
 pub returns-clause-ends : goal.returns-clause-ends
 returns-clause-ends g c = ends_then _ _ _ _ _ (λ e. true_false (sym e)) c.in_ok-restore_frames.ensures.ends c.in_ok-commit.ensures.ends
 
-pub restore_frames-requires-clause-coherent : goal.restore_frames-requires-clause-coherent
-restore_frames-requires-clause-coherent g c = c.requires.coherent
-
-pub restore_frames-requires-clause-closed : goal.restore_frames-requires-clause-closed
-restore_frames-requires-clause-closed g c = c.requires.closed
-
-pub restore_frames-requires-clause-updating : goal.restore_frames-requires-clause-updating
-restore_frames-requires-clause-updating g c = c.requires.updating
-
-pub restore_frames-requires-clause-within : goal.restore_frames-requires-clause-within
-restore_frames-requires-clause-within g c = c.requires.within
-
-pub commit-requires-clause-closed : goal.commit-requires-clause-closed
-commit-requires-clause-closed g c = c.restore_frames.ensures.stores.closed
-
 pub commit-requires-clause-updating : goal.commit-requires-clause-updating
 commit-requires-clause-updating g c = restores_gate _ _ c.restore_frames.ensures.restores ∙ c.requires.updating
 
@@ -92,15 +77,6 @@ returns-in_err-restore_frames-clause-shadows g c = λ k less. restores_shadows _
 
 pub returns-in_err-restore_frames-clause-names : goal.returns-in_err-restore_frames-clause-names
 returns-in_err-restore_frames-clause-names g c = restores_names _ _ c.restore_frames.ensures.restores
-
-pub returns-in_err-restore_frames-clause-rest : goal.returns-in_err-restore_frames-clause-rest
-returns-in_err-restore_frames-clause-rest g c = c.restore_frames.ensures.stores.rest
-
-pub returns-in_err-restore_frames-clause-closed : goal.returns-in_err-restore_frames-clause-closed
-returns-in_err-restore_frames-clause-closed g c = c.restore_frames.ensures.stores.closed
-
-pub returns-in_err-restore_frames-clause-lasts : goal.returns-in_err-restore_frames-clause-lasts
-returns-in_err-restore_frames-clause-lasts g c = c.restore_frames.ensures.stores.lasts
 
 pub returns-in_err-restore_frames-clause-ends : goal.returns-in_err-restore_frames-clause-ends
 returns-in_err-restore_frames-clause-ends g c = ends_told _ _ _ _ refl c.from_residual.ensures.0 c.in_err-restore_frames.ensures.ends
@@ -120,23 +96,14 @@ returns-in_err-commit-clause-names g c = same_names_trans _ _ _ (restores_names 
 pub returns-in_err-commit-clause-rest : goal.returns-in_err-commit-clause-rest
 returns-in_err-commit-clause-rest g c = c.commit.ensures.rest ∙ ap (λ (m : Contents). record m { words = (g.M.Machine.contents c.commit.new.m).words }) c.restore_frames.ensures.stores.rest
 
-pub returns-in_err-commit-clause-closed : goal.returns-in_err-commit-clause-closed
-returns-in_err-commit-clause-closed g c = c.commit.ensures.closed
-
 pub returns-in_err-commit-clause-lasts : goal.returns-in_err-commit-clause-lasts
 returns-in_err-commit-clause-lasts g c = lasts_trans _ _ _ c.restore_frames.ensures.stores.lasts c.commit.ensures.lasts
-
-pub returns-clause-cut : goal.returns-clause-cut
-returns-clause-cut g c = tt
 
 pub returns-clause-names : goal.returns-clause-names
 returns-clause-names g c = same_names_trans _ _ _ (restores_names _ _ c.restore_frames.ensures.restores) c.commit.ensures.names
 
 pub returns-clause-rest : goal.returns-clause-rest
 returns-clause-rest g c = c.commit.ensures.rest ∙ ap (λ (m : Contents). record m { words = (g.M.Machine.contents c.commit.new.m).words }) c.restore_frames.ensures.stores.rest
-
-pub returns-clause-closed : goal.returns-clause-closed
-returns-clause-closed g c = c.commit.ensures.closed
 
 pub returns-clause-lasts : goal.returns-clause-lasts
 returns-clause-lasts g c = lasts_trans _ _ _ c.restore_frames.ensures.stores.lasts c.commit.ensures.lasts

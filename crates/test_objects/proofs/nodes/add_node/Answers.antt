@@ -6,14 +6,8 @@ use Rattle.rio_base.specs.Volume.{put_run}
 use Rattle.inode_table.specs.Inodes.{inode_words}
 use Rattle.test_objects.proofs.nodes.add_node.Goals as goal
 
-pub returns-in_err-begin-clause-firm : goal.returns-in_err-begin-clause-firm
-returns-in_err-begin-clause-firm g c = c.begin.ensures.firm
-
 pub returns-in_err-begin-clause-shape : goal.returns-in_err-begin-clause-shape
 returns-in_err-begin-clause-shape g c = shape_dropped c.args.shape.now _ _ c.requires.shape c.begin.ensures.looks.count c.begin.ensures.drops
-
-pub returns-in_err-begin-clause-sound : goal.returns-in_err-begin-clause-sound
-returns-in_err-begin-clause-sound g c = c.begin.ensures.sound
 
 pub returns-in_err-touch-clause-firm : goal.returns-in_err-touch-clause-firm
 returns-in_err-touch-clause-firm g c = firm_trans _ _ _ c.begin.ensures.firm c.touch.ensures.firm
@@ -21,26 +15,14 @@ returns-in_err-touch-clause-firm g c = firm_trans _ _ _ c.begin.ensures.firm c.t
 pub returns-in_err-touch-clause-shape : goal.returns-in_err-touch-clause-shape
 returns-in_err-touch-clause-shape g c = still_unnamed c.args.shape.now _ _ _ (shape_dropped c.args.shape.now _ _ c.requires.shape c.begin.ensures.looks.count c.begin.ensures.drops) c.touch.ensures.looks.count c.touch.ensures.caches
 
-pub returns-in_err-touch-clause-sound : goal.returns-in_err-touch-clause-sound
-returns-in_err-touch-clause-sound g c = c.touch.ensures.sound
-
 pub returns-in_err-edit_inode-clause-firm : goal.returns-in_err-edit_inode-clause-firm
 returns-in_err-edit_inode-clause-firm g c = firm_trans _ _ _ (firm_trans _ _ _ c.begin.ensures.firm c.touch.ensures.firm) c.edit_inode.ensures.firm
-
-pub returns-in_err-edit_inode-clause-shape : goal.returns-in_err-edit_inode-clause-shape
-returns-in_err-edit_inode-clause-shape g c = c.edit_inode.ensures.shape
-
-pub returns-in_err-edit_inode-clause-sound : goal.returns-in_err-edit_inode-clause-sound
-returns-in_err-edit_inode-clause-sound g c = c.edit_inode.ensures.sound
 
 pub returns-in_err-commit-clause-firm : goal.returns-in_err-commit-clause-firm
 returns-in_err-commit-clause-firm g c = firm_trans _ _ _ (firm_trans _ _ _ (firm_trans _ _ _ c.begin.ensures.firm c.touch.ensures.firm) c.edit_inode.ensures.firm) c.commit.ensures.firm
 
 pub returns-in_err-commit-clause-shape : goal.returns-in_err-commit-clause-shape
 returns-in_err-commit-clause-shape g c = shape_dropped c.args.shape.now _ _ c.edit_inode.ensures.shape c.commit.ensures.looks.count c.commit.ensures.drops
-
-pub returns-in_err-commit-clause-sound : goal.returns-in_err-commit-clause-sound
-returns-in_err-commit-clause-sound g c = c.commit.ensures.sound
 
 pub returns-clause-words : goal.returns-clause-words
 returns-clause-words g c = c.commit.ensures.looks.words ∙ (c.in_ok-edit_inode.ensures.ok ∙ ap (λ f. put_run f (inode_block c.args.i.0) (inode_place c.args.i.0) 16 (inode_words c.args.inode.now)) (c.touch.ensures.looks.words ∙ c.begin.ensures.looks.words))
@@ -50,12 +32,6 @@ returns-clause-firm g c = firm_trans _ _ _ (firm_trans _ _ _ (firm_trans _ _ _ c
 
 pub returns-clause-shape : goal.returns-clause-shape
 returns-clause-shape g c = shape_dropped c.args.shape.now _ _ c.edit_inode.ensures.shape c.commit.ensures.looks.count c.commit.ensures.drops
-
-pub returns-clause-idle : goal.returns-clause-idle
-returns-clause-idle g c = c.in_ok-commit.ensures.ok.1
-
-pub returns-clause-sound : goal.returns-clause-sound
-returns-clause-sound g c = c.commit.ensures.sound
 
 pub touch-requires-clause-room : goal.touch-requires-clause-room
 touch-requires-clause-room g c = inr (let none = c.in_ok-begin.ensures.ok.touches in omega (arith, none))

@@ -33,15 +33,6 @@ returns-clause-ends g c =
     (ends_then _ _ _ _ _ (never _ DiskFail.Stopped) c.in_ok-write_block.ensures.ends (ends_then _ _ _ _ _ (never _ DiskFail.Stopped) c.in_ok-sync.ensures.ends
     (ends_still _ _ _ c.read_block.ensures.run (λ s. absurd (never _ DiskFail.Stopped s)))))
 
-pub returns-then-is_err-clause-ok : goal.returns-then-is_err-clause-ok
-returns-then-is_err-clause-ok g c = tt
-
-pub returns-then-is_err-clause-read : goal.returns-then-is_err-clause-read
-returns-then-is_err-clause-read g c = tt
-
-pub returns-then-is_err-clause-settled : goal.returns-then-is_err-clause-settled
-returns-then-is_err-clause-settled g c = tt
-
 pub returns-then-is_err-clause-words : goal.returns-then-is_err-clause-words
 returns-then-is_err-clause-words g c =
     let m = g.M.Machine.contents in
@@ -51,9 +42,6 @@ pub returns-then-is_err-clause-closed : goal.returns-then-is_err-clause-closed
 returns-then-is_err-clause-closed g c =
     let m = g.M.Machine.contents in
     closed_page (m c.store-stored.new.self) (m c.close_page.new.self) c.close_page.ensures.contents
-
-pub returns-then-is_err-clause-room : goal.returns-then-is_err-clause-room
-returns-then-is_err-clause-room g c = c.requires.room
 
 pub returns-then-is_err-clause-lasts : goal.returns-then-is_err-clause-lasts
 returns-then-is_err-clause-lasts g c =
@@ -87,9 +75,6 @@ returns-in_err-write_block-clause-closed g c =
     let m = g.M.Machine.contents in
     c.write_block.ensures.writes_block.open_page ∙ closed_page (m c.store-stored.new.self) (m c.close_page.new.self) c.close_page.ensures.contents
 
-pub returns-in_err-write_block-clause-room : goal.returns-in_err-write_block-clause-room
-returns-in_err-write_block-clause-room g c = c.requires.room
-
 pub returns-in_err-write_block-clause-lasts : goal.returns-in_err-write_block-clause-lasts
 returns-in_err-write_block-clause-lasts g c =
     let m = g.M.Machine.contents in
@@ -119,9 +104,6 @@ returns-in_err-sync-clause-closed g c =
     let m = g.M.Machine.contents in
     read_page (m c.write_block.new.self) (m c.sync.new.self) c.in_err-sync.ensures.same ∙ c.write_block.ensures.writes_block.open_page ∙ closed_page (m c.store-stored.new.self) (m c.close_page.new.self) c.close_page.ensures.contents
 
-pub returns-in_err-sync-clause-room : goal.returns-in_err-sync-clause-room
-returns-in_err-sync-clause-room g c = c.requires.room
-
 pub returns-in_err-sync-clause-lasts : goal.returns-in_err-sync-clause-lasts
 returns-in_err-sync-clause-lasts g c =
     let m = g.M.Machine.contents in
@@ -150,9 +132,6 @@ pub returns-in_err-read_block-clause-closed : goal.returns-in_err-read_block-cla
 returns-in_err-read_block-clause-closed g c =
     let m = g.M.Machine.contents in
     read_page (m c.sync.new.self) (m c.read_block.new.self) c.read_block.ensures.same ∙ synced_page (m c.write_block.new.self) (m c.sync.new.self) _ c.in_ok-sync.ensures.synced ∙ c.write_block.ensures.writes_block.open_page ∙ closed_page (m c.store-stored.new.self) (m c.close_page.new.self) c.close_page.ensures.contents
-
-pub returns-in_err-read_block-clause-room : goal.returns-in_err-read_block-clause-room
-returns-in_err-read_block-clause-room g c = c.read_block.ensures.room
 
 pub returns-in_err-read_block-clause-fault : goal.returns-in_err-read_block-clause-fault
 returns-in_err-read_block-clause-fault g c =
@@ -184,9 +163,6 @@ returns-clause-closed g c =
     let m = g.M.Machine.contents in
     read_page (m c.sync.new.self) (m c.read_block.new.self) c.read_block.ensures.same ∙ synced_page (m c.write_block.new.self) (m c.sync.new.self) _ c.in_ok-sync.ensures.synced ∙ c.write_block.ensures.writes_block.open_page ∙ closed_page (m c.store-stored.new.self) (m c.close_page.new.self) c.close_page.ensures.contents
 
-pub returns-clause-room : goal.returns-clause-room
-returns-clause-room g c = c.read_block.ensures.room
-
 pub returns-clause-lasts : goal.returns-clause-lasts
 returns-clause-lasts g c =
     let m = g.M.Machine.contents in
@@ -194,12 +170,6 @@ returns-clause-lasts g c =
 
 pub returns-clause-fault : goal.returns-clause-fault
 returns-clause-fault g c = not_ok_fault
-
-pub open_page-requires-clause-closed : goal.open_page-requires-clause-closed
-open_page-requires-clause-closed g c = c.requires.closed
-
-pub open_page-requires-clause-protected : goal.open_page-requires-clause-protected
-open_page-requires-clause-protected g c = c.requires.page
 
 pub store-stored-requires : goal.store-stored-requires
 store-stored-requires g c =
@@ -240,6 +210,3 @@ pub read_block-requires-clause-block : goal.read_block-requires-clause-block
 read_block-requires-clause-block g c =
     let m = g.M.Machine.contents in
     within_now _ _ _ (lasts_trans (m c.args.m.now) (m c.write_block.new.self) (m c.sync.new.self) (lasts_trans (m c.args.m.now) (m c.close_page.new.self) (m c.write_block.new.self) (lasts_within (m c.args.m.now) (m c.open_page.new.self) (m c.store-stored.new.self) (m c.close_page.new.self) (Some c.args.p.0) None c.open_page.ensures.contents c.store-stored.ensures.lasts c.close_page.ensures.contents) c.write_block.ensures.lasts) c.sync.ensures.lasts).blocks c.requires.block
-
-pub read_block-requires-clause-room : goal.read_block-requires-clause-room
-read_block-requires-clause-room g c = c.requires.room

@@ -11,14 +11,8 @@ use Rattle.undo_list.proofs.covering.covered.Goals as goal
 pub word-requires-clause-place : goal.word-requires-clause-place
 word-requires-clause-place g c = omega (arith, g.met.R.RegionWords.small c.args.r.now c.requires.ready, c.requires.region.size)
 
-pub returns-in_err-head-clause-words : goal.returns-in_err-head-clause-words
-returns-in_err-head-clause-words g c = c.word.ensures.words
-
 pub returns-in_err-head-clause-region : goal.returns-in_err-head-clause-region
 returns-in_err-head-clause-region g c = region_at _ _ _ _ c.requires.region c.word.ensures.stays.count c.word.ensures.words
-
-pub returns-in_err-head-clause-stays : goal.returns-in_err-head-clause-stays
-returns-in_err-head-clause-stays g c = c.word.ensures.stays
 
 pub returns-in_err-head-clause-ends : goal.returns-in_err-head-clause-ends
 returns-in_err-head-clause-ends g c =
@@ -30,12 +24,6 @@ returns-in_err-head-clause-value g c =
     let p = err_from_is_err_and c.from_residual.result c.from_residual.ensures.1 in
     rw (p.1) tt
 
-pub returns-then-count-eq0-clause-words : goal.returns-then-count-eq0-clause-words
-returns-then-count-eq0-clause-words g c = refl
-
-pub returns-then-count-eq0-clause-region : goal.returns-then-count-eq0-clause-region
-returns-then-count-eq0-clause-region g c = c.requires.region
-
 pub returns-then-count-eq0-clause-stays : goal.returns-then-count-eq0-clause-stays
 returns-then-count-eq0-clause-stays g c = stays_none c.args.r.now (g.met.R.RegionWords.rest_refl c.args.r.now) c.requires.ready
 
@@ -44,9 +32,6 @@ returns-then-count-eq0-clause-ends g c = record { later = le_refl (g.R.RegionWor
 
 pub returns-then-count-eq0-clause-value : goal.returns-then-count-eq0-clause-value
 returns-then-count-eq0-clause-value g c = λ q low high. absurd (omega (arith, c.if-count-eq0.true))
-
-pub covered_from_head-requires-clause-ready : goal.covered_from_head-requires-clause-ready
-covered_from_head-requires-clause-ready g c = c.word.ensures.stays.ready
 
 pub covered_from_head-requires-clause-region : goal.covered_from_head-requires-clause-region
 covered_from_head-requires-clause-region g c = region_at _ _ _ _ c.requires.region c.word.ensures.stays.count c.word.ensures.words
@@ -59,9 +44,6 @@ covered_from_head-requires-clause-place g c = subst (λ (w : ℕ → ℕ). c.arg
 
 pub returns-clause-words : goal.returns-clause-words
 returns-clause-words g c = c.covered_from_head.ensures.words ∙ c.word.ensures.words
-
-pub returns-clause-region : goal.returns-clause-region
-returns-clause-region g c = c.covered_from_head.ensures.region
 
 pub returns-clause-stays : goal.returns-clause-stays
 returns-clause-stays g c = stays_trans g.met.R.RegionWords.rest_trans c.word.ensures.stays c.covered_from_head.ensures.stays

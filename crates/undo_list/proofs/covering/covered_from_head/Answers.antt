@@ -14,12 +14,6 @@ returns-then-not-branch-clause-stays g c = stays_trans g.met.R.RegionWords.rest_
 pub overflow_add-place : goal.overflow_add-place
 overflow_add-place g c = omega (arith, g.met.R.RegionWords.small c.args.r.now c.requires.ready, c.requires.region.size, c.requires.place, c.loop-done.invariant.within)
 
-pub covers-requires-clause-ready : goal.covers-requires-clause-ready
-covers-requires-clause-ready g c = c.loop-done.invariant.stays.ready
-
-pub covers-requires-clause-region : goal.covers-requires-clause-region
-covers-requires-clause-region g c = c.loop-done.invariant.region
-
 pub covers-requires-clause-head : goal.covers-requires-clause-head
 covers-requires-clause-head g c = c.requires.head ∙ sym (ap (λ (w : ℕ → ℕ). w 3) c.loop-done.invariant.words)
 
@@ -89,15 +83,6 @@ returns-then-not-branch-clause-ends g c =
 pub returns-then-not-branch-clause-value : goal.returns-then-not-branch-clause-value
 returns-then-not-branch-clause-value g c =
     covers_hole (g.R.RegionWords.words c.args.r.now) (g.R.RegionWords.words c.loop-done.r) c.args.place c.args.count c.loop-done.done c.min-next.result c.in_ok-covers.field-0 c.loop-done.invariant.words c.if-not-branch.true (omega (arith, c.min-next.ensures, c.loop-done.invariant.within)) c.in_ok-covers.ensures.value
-
-pub returns-clause-words : goal.returns-clause-words
-returns-clause-words g c = c.loop-done.invariant.words
-
-pub returns-clause-region : goal.returns-clause-region
-returns-clause-region g c = c.loop-done.invariant.region
-
-pub returns-clause-stays : goal.returns-clause-stays
-returns-clause-stays g c = c.loop-done.invariant.stays
 
 pub returns-clause-ends : goal.returns-clause-ends
 returns-clause-ends g c = record { later = c.loop-done.invariant.later; stays = λ stopped. c.loop-done.invariant.running ∙ stopped; cause = c.loop-done.invariant.running }

@@ -26,12 +26,6 @@ loop-head-init g c =
       running = refl;
     }
 
-pub record_at-requires-clause-ready : goal.record_at-requires-clause-ready
-record_at-requires-clause-ready g c = c.loop-head.invariant.stays.ready
-
-pub record_at-requires-clause-region : goal.record_at-requires-clause-region
-record_at-requires-clause-region g c = c.loop-head.invariant.region
-
 pub record_at-requires-clause-chain : goal.record_at-requires-clause-chain
 record_at-requires-clause-chain g c = (c.loop-head.invariant.chain.0, c.loop-head.invariant.chain.1)
 
@@ -49,9 +43,6 @@ pub short_of-requires : goal.short_of-requires
 short_of-requires g c =
     let inv = c.loop-head.invariant in
     record { fits = newest_small (g.R.RegionWords.count c.loop-head.r) (g.R.RegionWords.words c.loop-head.r) c.loop-head.head inv.chain.0 c.in_ok-saved.saved inv.region (g.met.R.RegionWords.small c.loop-head.r inv.stays.ready) (omega arith) inv.chain.1 (c.in_ok-saved.ensures.value inv.chain.0 inv.chain.1) }
-
-pub covers_from-requires-clause-ready : goal.covers_from-requires-clause-ready
-covers_from-requires-clause-ready g c = c.record_at.ensures.stays.ready
 
 pub covers_from-requires-clause-region : goal.covers_from-requires-clause-region
 covers_from-requires-clause-region g c = region_at _ _ _ _ c.loop-head.invariant.region c.record_at.ensures.stays.count c.record_at.ensures.words
@@ -73,12 +64,6 @@ pub returns-then-left-clause-value : goal.returns-then-left-clause-value
 returns-then-left-clause-value g c =
     let inv = c.loop-head.invariant in
     leaves_none (undo_records (g.R.RegionWords.words c.args.r.now)) inv.chain.0 c.args.place c.args.count c.loop-head.left c.if-left.true inv.chain.2
-
-pub returns-then-left-clause-words : goal.returns-then-left-clause-words
-returns-then-left-clause-words g c = c.loop-head.invariant.words
-
-pub returns-then-left-clause-stays : goal.returns-then-left-clause-stays
-returns-then-left-clause-stays g c = c.loop-head.invariant.stays
 
 pub returns-then-left-clause-ends : goal.returns-then-left-clause-ends
 returns-then-left-clause-ends g c =
@@ -120,12 +105,6 @@ pub returns-then-lies_between-clause-ends : goal.returns-then-lies_between-claus
 returns-then-lies_between-clause-ends g c =
     let inv = c.loop-head.invariant in
     ends_later _ _ _ _ inv.later inv.running (ends_later _ _ _ _ c.record_at.ensures.ends.later c.in_ok-saved.ensures.ends.cause c.covers_from.ensures.ends)
-
-pub returns-clause-words : goal.returns-clause-words
-returns-clause-words g c = c.loop-head.invariant.words
-
-pub returns-clause-stays : goal.returns-clause-stays
-returns-clause-stays g c = c.loop-head.invariant.stays
 
 pub returns-clause-ends : goal.returns-clause-ends
 returns-clause-ends g c =

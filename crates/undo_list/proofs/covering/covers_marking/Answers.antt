@@ -57,12 +57,6 @@ records-preserved g c =
 pub mark_record-requires-clause-fits : goal.mark_record-requires-clause-fits
 mark_record-requires-clause-fits g c = omega (arith, g.met.R.RegionWords.small c.records.r c.records.invariant.stays.ready, c.records.invariant.region.size, c.records.invariant.marking.within)
 
-pub record_at-requires-clause-ready : goal.record_at-requires-clause-ready
-record_at-requires-clause-ready g c = c.records.invariant.stays.ready
-
-pub record_at-requires-clause-region : goal.record_at-requires-clause-region
-record_at-requires-clause-region g c = c.records.invariant.region
-
 pub record_at-requires-clause-chain : goal.record_at-requires-clause-chain
 record_at-requires-clause-chain g c = (c.records.invariant.marking.rest, c.records.invariant.marking.chain)
 
@@ -82,20 +76,8 @@ returns-in_err-saved-clause-value g c =
     let p = err_from_is_err_and c.from_residual.result c.from_residual.ensures.1 in
     rw (p.1) tt
 
-pub returns-then-done-count-clause-words : goal.returns-then-done-count-clause-words
-returns-then-done-count-clause-words g c = c.records.invariant.words
-
-pub returns-then-done-count-clause-stays : goal.returns-then-done-count-clause-stays
-returns-then-done-count-clause-stays g c = c.records.invariant.stays
-
 pub returns-then-done-count-clause-ends : goal.returns-then-done-count-clause-ends
 returns-then-done-count-clause-ends g c = record { later = c.records.invariant.later; stays = λ stopped. c.records.invariant.running ∙ stopped; cause = c.records.invariant.running }
-
-pub returns-then-saved-eq0-clause-words : goal.returns-then-saved-eq0-clause-words
-returns-then-saved-eq0-clause-words g c = c.records.invariant.words
-
-pub returns-then-saved-eq0-clause-stays : goal.returns-then-saved-eq0-clause-stays
-returns-then-saved-eq0-clause-stays g c = c.records.invariant.stays
 
 pub returns-then-saved-eq0-clause-ends : goal.returns-then-saved-eq0-clause-ends
 returns-then-saved-eq0-clause-ends g c = record { later = c.records.invariant.later; stays = λ stopped. c.records.invariant.running ∙ stopped; cause = c.records.invariant.running }

@@ -8,14 +8,8 @@ use Rattle.undo_list.proofs.Frames.{region_at}
 use Rattle.undo_list.proofs.Outcomes.{ends_err}
 use Rattle.undo_list.proofs.places.read_places.Goals as goal
 
-pub returns-in_err-undo-clause-words : goal.returns-in_err-undo-clause-words
-returns-in_err-undo-clause-words g c = c.word.ensures.words
-
 pub returns-in_err-undo-clause-region : goal.returns-in_err-undo-clause-region
 returns-in_err-undo-clause-region g c = region_at _ _ _ _ c.requires.region c.word.ensures.stays.count c.word.ensures.words
-
-pub returns-in_err-undo-clause-stays : goal.returns-in_err-undo-clause-stays
-returns-in_err-undo-clause-stays g c = c.word.ensures.stays
 
 pub returns-in_err-undo-clause-ends : goal.returns-in_err-undo-clause-ends
 returns-in_err-undo-clause-ends g c =
@@ -33,9 +27,6 @@ word-requires-clause-place g c = omega (arith, g.met.R.RegionWords.small c.args.
 pub overflow_cast-undo : goal.overflow_cast-undo
 overflow_cast-undo g c = omega (arith, g.met.R.RegionWords.small c.args.r.now c.requires.ready, c.requires.region.size, c.in_ok-undo.ensures.value)
 
-pub read_places_behind-requires-clause-ready : goal.read_places_behind-requires-clause-ready
-read_places_behind-requires-clause-ready g c = c.word.ensures.stays.ready
-
 pub read_places_behind-requires-clause-region : goal.read_places_behind-requires-clause-region
 read_places_behind-requires-clause-region g c = region_at _ _ _ _ c.requires.region c.word.ensures.stays.count c.word.ensures.words
 
@@ -44,12 +35,6 @@ read_places_behind-requires-clause-undo g c = c.in_ok-undo.ensures.value ∙ sym
 
 pub read_places_behind-requires-clause-place : goal.read_places_behind-requires-clause-place
 read_places_behind-requires-clause-place g c = subst (λ (w : ℕ → ℕ). c.args.place + length c.args.into.now ≤ places w) (sym c.word.ensures.words) c.requires.place
-
-pub returns-clause-len : goal.returns-clause-len
-returns-clause-len g c = c.read_places_behind.ensures.len
-
-pub returns-clause-region : goal.returns-clause-region
-returns-clause-region g c = c.read_places_behind.ensures.region
 
 pub returns-clause-words : goal.returns-clause-words
 returns-clause-words g c = c.read_places_behind.ensures.words ∙ c.word.ensures.words

@@ -3,26 +3,11 @@ use Rattle.std.proofs.lemmas.Result.{IfOk-weaker}
 use Rattle.undo_list.proofs.Frames.{region_at}
 use Rattle.undo_list.proofs.places.read_places_behind.Goals as goal
 
-pub read_run-requires-clause-ready : goal.read_run-requires-clause-ready
-read_run-requires-clause-ready g c = c.requires.ready
-
 pub read_run-requires-clause-place : goal.read_run-requires-clause-place
 read_run-requires-clause-place g c = omega (arith, c.requires.region.size, c.requires.place, c.requires.undo)
 
-pub returns-clause-len : goal.returns-clause-len
-returns-clause-len g c = c.read_run.ensures.len
-
-pub returns-clause-words : goal.returns-clause-words
-returns-clause-words g c = c.read_run.ensures.words
-
 pub returns-clause-region : goal.returns-clause-region
 returns-clause-region g c = region_at _ _ _ _ c.requires.region c.read_run.ensures.stays.count c.read_run.ensures.words
-
-pub returns-clause-stays : goal.returns-clause-stays
-returns-clause-stays g c = c.read_run.ensures.stays
-
-pub returns-clause-ends : goal.returns-clause-ends
-returns-clause-ends g c = c.read_run.ensures.ends
 
 pub returns-clause-value : goal.returns-clause-value
 returns-clause-value g c =

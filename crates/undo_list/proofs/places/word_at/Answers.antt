@@ -7,14 +7,8 @@ use Rattle.undo_list.proofs.Frames.{region_at}
 use Rattle.undo_list.proofs.Outcomes.{ends_err}
 use Rattle.undo_list.proofs.places.word_at.Goals as goal
 
-pub returns-in_err-undo-clause-words : goal.returns-in_err-undo-clause-words
-returns-in_err-undo-clause-words g c = c.word.ensures.words
-
 pub returns-in_err-undo-clause-region : goal.returns-in_err-undo-clause-region
 returns-in_err-undo-clause-region g c = region_at _ _ _ _ c.requires.region c.word.ensures.stays.count c.word.ensures.words
-
-pub returns-in_err-undo-clause-stays : goal.returns-in_err-undo-clause-stays
-returns-in_err-undo-clause-stays g c = c.word.ensures.stays
 
 pub returns-in_err-undo-clause-ends : goal.returns-in_err-undo-clause-ends
 returns-in_err-undo-clause-ends g c =
@@ -31,9 +25,6 @@ word-requires-clause-place g c = omega (arith, g.met.R.RegionWords.small c.args.
 
 pub overflow_cast-undo : goal.overflow_cast-undo
 overflow_cast-undo g c = omega (arith, g.met.R.RegionWords.small c.args.r.now c.requires.ready, c.requires.region.size, c.in_ok-undo.ensures.value)
-
-pub word-requires-2-clause-ready : goal.word-requires-2-clause-ready
-word-requires-2-clause-ready g c = c.word.ensures.stays.ready
 
 pub word-requires-2-clause-place : goal.word-requires-2-clause-place
 word-requires-2-clause-place g c = omega (arith, c.word.ensures.stays.count, c.requires.region.size, c.requires.place, c.in_ok-undo.ensures.value)

@@ -58,12 +58,6 @@ returns-clause-either g c =
     let ends = λ (v : ℕ) (e : v ≡ at + 1) (w : ℕ → ℕ) (o : OldOrPutWord (g.R.RegionWords.words c.stage.new.r) w 3 v). published n f (g.R.RegionWords.words c.stage.new.r) w at c.args.place (512 * (1 + c.args.header.undo) + c.args.place) k v c.requires.region c.requires.at off st (omega (arith, c.requires.undo)) c.requires.place c.requires.room e o in
     ends (c.from.result + 1) (ap (λ x. x + 1) c.from.ensures) (g.R.RegionWords.words c.set.new.self) c.set.ensures.either
 
-pub stage-requires-clause-ready : goal.stage-requires-clause-ready
-stage-requires-clause-ready g c = c.requires.ready
-
-pub set-requires-clause-ready : goal.set-requires-clause-ready
-set-requires-clause-ready g c = c.stage.ensures.stays.ready
-
 pub set-requires-clause-place : goal.set-requires-clause-place
 set-requires-clause-place g c = omega (arith, c.stage.ensures.stays.count, c.requires.region.size)
 
@@ -71,9 +65,6 @@ pub returns-in_err-stage-clause-ok : goal.returns-in_err-stage-clause-ok
 returns-in_err-stage-clause-ok g c =
     let p = err_from_is_err_and c.from_residual.result c.from_residual.ensures.1 in
     rw (p.1) tt
-
-pub returns-in_err-stage-clause-stays : goal.returns-in_err-stage-clause-stays
-returns-in_err-stage-clause-stays g c = c.stage.ensures.stays
 
 pub returns-in_err-stage-clause-ends : goal.returns-in_err-stage-clause-ends
 returns-in_err-stage-clause-ends g c =

@@ -48,12 +48,6 @@ returns-clause-either g c =
 pub returns-clause-stays : goal.returns-clause-stays
 returns-clause-stays g c = stays_trans g.met.R.RegionWords.rest_trans c.stage_pair.ensures.stays c.set.ensures.stays
 
-pub stage_pair-requires-clause-ready : goal.stage_pair-requires-clause-ready
-stage_pair-requires-clause-ready g c = c.requires.ready
-
-pub set-requires-clause-ready : goal.set-requires-clause-ready
-set-requires-clause-ready g c = c.stage_pair.ensures.stays.ready
-
 pub set-requires-clause-place : goal.set-requires-clause-place
 set-requires-clause-place g c = omega (arith, c.stage_pair.ensures.stays.count, c.requires.region.size)
 
@@ -61,9 +55,6 @@ pub returns-in_err-stage_pair-clause-ok : goal.returns-in_err-stage_pair-clause-
 returns-in_err-stage_pair-clause-ok g c =
     let p = err_from_is_err_and c.from_residual.result c.from_residual.ensures.1 in
     rw (p.1) tt
-
-pub returns-in_err-stage_pair-clause-stays : goal.returns-in_err-stage_pair-clause-stays
-returns-in_err-stage_pair-clause-stays g c = c.stage_pair.ensures.stays
 
 pub returns-in_err-stage_pair-clause-ends : goal.returns-in_err-stage_pair-clause-ends
 returns-in_err-stage_pair-clause-ends g c =

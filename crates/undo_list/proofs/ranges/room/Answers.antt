@@ -7,18 +7,6 @@ use Rattle.undo_list.proofs.Frames.{region_at}
 use Rattle.undo_list.proofs.Outcomes.{ends_err}
 use Rattle.undo_list.proofs.ranges.room.Goals as goal
 
-pub read_header-requires-clause-ready : goal.read_header-requires-clause-ready
-read_header-requires-clause-ready g c = c.requires.ready
-
-pub read_header-requires-clause-region : goal.read_header-requires-clause-region
-read_header-requires-clause-region g c = c.requires.region
-
-pub taken-requires-clause-ready : goal.taken-requires-clause-ready
-taken-requires-clause-ready g c = c.read_header.ensures.stays.ready
-
-pub taken-requires-clause-region : goal.taken-requires-clause-region
-taken-requires-clause-region g c = c.read_header.ensures.region
-
 pub taken-requires-clause-head : goal.taken-requires-clause-head
 taken-requires-clause-head g c = c.in_ok-header.ensures.header.head ∙ sym (ap (λ (w : ℕ → ℕ). w 3) c.read_header.ensures.words)
 
@@ -26,15 +14,6 @@ pub returns-in_err-header-clause-value : goal.returns-in_err-header-clause-value
 returns-in_err-header-clause-value g c =
     let p = err_from_is_err_and c.from_residual.result c.from_residual.ensures.1 in
     rw (p.1) tt
-
-pub returns-in_err-header-clause-words : goal.returns-in_err-header-clause-words
-returns-in_err-header-clause-words g c = c.read_header.ensures.words
-
-pub returns-in_err-header-clause-region : goal.returns-in_err-header-clause-region
-returns-in_err-header-clause-region g c = c.read_header.ensures.region
-
-pub returns-in_err-header-clause-stays : goal.returns-in_err-header-clause-stays
-returns-in_err-header-clause-stays g c = c.read_header.ensures.stays
 
 pub returns-in_err-header-clause-ends : goal.returns-in_err-header-clause-ends
 returns-in_err-header-clause-ends g c =

@@ -10,18 +10,6 @@ use Rattle.undo_list.proofs.Outcomes.{ends_handed, never_full, on_ok}
 use Rattle.undo_list.specs.Headers.{IsHeader}
 use Rattle.undo_list.proofs.ranges.set_range.Goals as goal
 
-pub read_header-requires-clause-ready : goal.read_header-requires-clause-ready
-read_header-requires-clause-ready g c = c.requires.ready
-
-pub read_header-requires-clause-region : goal.read_header-requires-clause-region
-read_header-requires-clause-region g c = c.requires.region
-
-pub set_range_by_header-requires-clause-ready : goal.set_range_by_header-requires-clause-ready
-set_range_by_header-requires-clause-ready g c = c.read_header.ensures.stays.ready
-
-pub set_range_by_header-requires-clause-region : goal.set_range_by_header-requires-clause-region
-set_range_by_header-requires-clause-region g c = c.read_header.ensures.region
-
 pub set_range_by_header-requires-clause-header : goal.set_range_by_header-requires-clause-header
 set_range_by_header-requires-clause-header g c = subst (λ (w : ℕ → ℕ). IsHeader w c.in_ok-header.header) (sym c.read_header.ensures.words) c.in_ok-header.ensures.header
 
@@ -56,12 +44,6 @@ pub returns-in_err-header-clause-before : goal.returns-in_err-header-clause-befo
 returns-in_err-header-clause-before g c =
     rests_undoes (g.R.RegionWords.count c.args.r.now) (g.R.RegionWords.words c.args.r.now) (g.R.RegionWords.words c.read_header.new.r) (rests_same (g.R.RegionWords.count c.args.r.now) (g.R.RegionWords.words c.args.r.now) (g.R.RegionWords.words c.read_header.new.r) c.requires.region c.read_header.ensures.words)
 
-pub returns-in_err-header-clause-region : goal.returns-in_err-header-clause-region
-returns-in_err-header-clause-region g c = c.read_header.ensures.region
-
-pub returns-in_err-header-clause-stays : goal.returns-in_err-header-clause-stays
-returns-in_err-header-clause-stays g c = c.read_header.ensures.stays
-
 pub returns-in_err-header-clause-ends : goal.returns-in_err-header-clause-ends
 returns-in_err-header-clause-ends g c =
     let p = err_from_is_err_and c.from_residual.result c.from_residual.ensures.1 in
@@ -91,9 +73,6 @@ returns-clause-either g c =
 pub returns-clause-before : goal.returns-clause-before
 returns-clause-before g c =
     undoes_from (g.R.RegionWords.count c.args.r.now) (g.R.RegionWords.count c.read_header.new.r) (g.R.RegionWords.words c.read_header.new.r) (g.R.RegionWords.words c.args.r.now) (g.R.RegionWords.words c.set_range_by_header.new.r) c.read_header.ensures.words c.read_header.ensures.stays.count c.set_range_by_header.ensures.before
-
-pub returns-clause-region : goal.returns-clause-region
-returns-clause-region g c = c.set_range_by_header.ensures.region
 
 pub returns-clause-stays : goal.returns-clause-stays
 returns-clause-stays g c = stays_trans g.met.R.RegionWords.rest_trans c.read_header.ensures.stays c.set_range_by_header.ensures.stays

@@ -16,18 +16,6 @@ pub returns-clause-before : goal.returns-clause-before
 returns-clause-before g c =
     undoes_from (g.R.RegionWords.count c.args.r.now) (g.R.RegionWords.count c.taken.new.r) (g.R.RegionWords.words c.taken.new.r) (g.R.RegionWords.words c.args.r.now) (g.R.RegionWords.words c.publish.new.r) c.taken.ensures.words c.taken.ensures.stays.count (either_undoes (g.R.RegionWords.count c.taken.new.r) (g.R.RegionWords.words c.taken.new.r) (g.R.RegionWords.words c.publish.new.r) c.args.place c.args.count c.publish.ensures.either)
 
-pub taken-requires-clause-ready : goal.taken-requires-clause-ready
-taken-requires-clause-ready g c = c.requires.ready
-
-pub taken-requires-clause-region : goal.taken-requires-clause-region
-taken-requires-clause-region g c = c.requires.region
-
-pub taken-requires-clause-head : goal.taken-requires-clause-head
-taken-requires-clause-head g c = c.requires.header.head
-
-pub publish-requires-clause-ready : goal.publish-requires-clause-ready
-publish-requires-clause-ready g c = c.taken.ensures.stays.ready
-
 pub publish-requires-clause-region : goal.publish-requires-clause-region
 publish-requires-clause-region g c = region_at _ _ _ _ c.requires.region c.taken.ensures.stays.count c.taken.ensures.words
 
@@ -80,9 +68,6 @@ returns-in_err-at-clause-before g c =
 pub returns-in_err-at-clause-region : goal.returns-in_err-at-clause-region
 returns-in_err-at-clause-region g c = region_at _ _ _ _ c.requires.region c.taken.ensures.stays.count c.taken.ensures.words
 
-pub returns-in_err-at-clause-stays : goal.returns-in_err-at-clause-stays
-returns-in_err-at-clause-stays g c = c.taken.ensures.stays
-
 pub returns-in_err-at-clause-ends : goal.returns-in_err-at-clause-ends
 returns-in_err-at-clause-ends g c =
     let p = err_from_is_err_and c.from_residual.result c.from_residual.ensures.1 in
@@ -103,15 +88,6 @@ returns-then-header-at-clause-before g c =
 
 pub returns-then-header-at-clause-region : goal.returns-then-header-at-clause-region
 returns-then-header-at-clause-region g c = region_at _ _ _ _ c.requires.region c.taken.ensures.stays.count c.taken.ensures.words
-
-pub returns-then-header-at-clause-stays : goal.returns-then-header-at-clause-stays
-returns-then-header-at-clause-stays g c = c.taken.ensures.stays
-
-pub returns-then-header-at-clause-ok : goal.returns-then-header-at-clause-ok
-returns-then-header-at-clause-ok g c = tt
-
-pub returns-then-header-at-clause-room : goal.returns-then-header-at-clause-room
-returns-then-header-at-clause-room g c = tt
 
 pub returns-then-header-at-clause-full : goal.returns-then-header-at-clause-full
 returns-then-header-at-clause-full g c = λ full. omega (arith, c.requires.header.undo, c.in_ok-at.ensures.value, c.if-header-at.true)

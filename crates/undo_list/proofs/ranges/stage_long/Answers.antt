@@ -21,16 +21,10 @@ pub returns-in_err-uncounted-clause-off : goal.returns-in_err-uncounted-clause-o
 returns-in_err-uncounted-clause-off g c =
     off_run (g.R.RegionWords.words c.args.r.now) (g.R.RegionWords.words c.args.r.now) (g.R.RegionWords.words c.set_run.new.self) (512 + c.args.at) (515 + c.args.at + c.args.count) 3 (c.args.head ∷ c.from.result ∷ c.from-2.result ∷ []) refl (omega arith) c.set_run.ensures.front
 
-pub returns-in_err-uncounted-clause-stays : goal.returns-in_err-uncounted-clause-stays
-returns-in_err-uncounted-clause-stays g c = c.set_run.ensures.stays
-
 pub returns-in_err-uncounted-clause-ends : goal.returns-in_err-uncounted-clause-ends
 returns-in_err-uncounted-clause-ends g c =
     let p = err_from_is_err_and c.from_residual.result c.from_residual.ensures.1 in
     ends_err _ _ c.uncounted.result c.from_residual.result _ _ c.in_err-uncounted.was p.1 p.2 (word_ends _ _ c.set_run.result c.uncounted.result c.uncounted.ensures c.set_run.ensures.ends)
-
-pub copy_words-requires-clause-ready : goal.copy_words-requires-clause-ready
-copy_words-requires-clause-ready g c = c.set_run.ensures.stays.ready
 
 pub copy_words-requires-clause-source : goal.copy_words-requires-clause-source
 copy_words-requires-clause-source g c = omega (arith, c.set_run.ensures.stays.count, c.requires.source)

@@ -19,16 +19,10 @@ returns-in_err-read_run-clause-ok g c =
 pub returns-in_err-read_run-clause-off : goal.returns-in_err-read_run-clause-off
 returns-in_err-read_run-clause-off g c = off_same (512 + c.args.at) (515 + c.args.at + c.args.count) (g.R.RegionWords.words c.args.r.now) (g.R.RegionWords.words c.read_run.new.self) c.read_run.ensures.words
 
-pub returns-in_err-read_run-clause-stays : goal.returns-in_err-read_run-clause-stays
-returns-in_err-read_run-clause-stays g c = c.read_run.ensures.stays
-
 pub returns-in_err-read_run-clause-ends : goal.returns-in_err-read_run-clause-ends
 returns-in_err-read_run-clause-ends g c =
     let p = err_from_is_err_and c.from_residual.result c.from_residual.ensures.1 in
     ends_err _ _ c.read_run.result c.from_residual.result _ _ c.in_err-read_run.was p.1 p.2 c.read_run.ensures.ends
-
-pub set_run-requires-clause-ready : goal.set_run-requires-clause-ready
-set_run-requires-clause-ready g c = c.read_run.ensures.stays.ready
 
 pub returns-clause-off : goal.returns-clause-off
 returns-clause-off g c = off_taken _ _ _ (512 + c.args.at) (515 + c.args.at + c.args.count) (3 + c.args.count) _ c.read_run.ensures.words (omega arith) c.set_run.ensures.front
@@ -38,9 +32,6 @@ returns-clause-stays g c = stays_trans g.met.R.RegionWords.rest_trans c.read_run
 
 pub returns-clause-ends : goal.returns-clause-ends
 returns-clause-ends g c = ends_later _ _ _ _ c.read_run.ensures.ends.later c.in_ok-read_run.ensures.ends.cause (word_ends _ _ c.set_run.result c.uncounted.result c.uncounted.ensures c.set_run.ensures.ends)
-
-pub read_run-requires-clause-ready : goal.read_run-requires-clause-ready
-read_run-requires-clause-ready g c = c.requires.ready
 
 pub overflow_add-at : goal.overflow_add-at
 overflow_add-at g c = omega (arith, g.met.R.RegionWords.small c.args.r.now c.requires.ready, c.requires.behind, c.requires.source)

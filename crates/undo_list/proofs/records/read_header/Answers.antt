@@ -13,20 +13,8 @@ returns-in_err-read_run-clause-ends g c =
     let p = err_from_is_err_and c.from_residual.result c.from_residual.ensures.1 in
     ends_err _ _ c.read_run.result c.from_residual.result _ _ c.in_err-read_run.was p.1 p.2 c.read_run.ensures.ends
 
-pub returns-in_err-read_run-clause-words : goal.returns-in_err-read_run-clause-words
-returns-in_err-read_run-clause-words g c = c.read_run.ensures.words
-
 pub returns-in_err-read_run-clause-region : goal.returns-in_err-read_run-clause-region
 returns-in_err-read_run-clause-region g c = region_at _ _ _ _ c.requires.region c.read_run.ensures.stays.count c.read_run.ensures.words
 
-pub returns-in_err-read_run-clause-stays : goal.returns-in_err-read_run-clause-stays
-returns-in_err-read_run-clause-stays g c = c.read_run.ensures.stays
-
-pub returns-clause-words : goal.returns-clause-words
-returns-clause-words g c = c.read_run.ensures.words
-
 pub returns-clause-region : goal.returns-clause-region
 returns-clause-region g c = region_at _ _ _ _ c.requires.region c.read_run.ensures.stays.count c.read_run.ensures.words
-
-pub returns-clause-stays : goal.returns-clause-stays
-returns-clause-stays g c = c.read_run.ensures.stays

@@ -42,30 +42,15 @@ returns-clause-value g c =
     let count : slice_index c.read_run.new.into 2 ≡ f (514 + at) = c.in_ok-read_run.ensures.value.each 2 (omega arith) ∙ ap f (omega arith) in
     λ rs chain. newest_is f c.args.head at _ _ _ c.requires.some refl first count older rs chain
 
-pub read_run-requires-clause-ready : goal.read_run-requires-clause-ready
-read_run-requires-clause-ready g c = c.requires.ready
-
 pub returns-in_err-read_run-clause-value : goal.returns-in_err-read_run-clause-value
 returns-in_err-read_run-clause-value g c =
     let p = err_from_is_err_and c.from_residual.result c.from_residual.ensures.1 in
     rw (p.1) tt
 
-pub returns-in_err-read_run-clause-words : goal.returns-in_err-read_run-clause-words
-returns-in_err-read_run-clause-words g c = c.read_run.ensures.words
-
-pub returns-in_err-read_run-clause-stays : goal.returns-in_err-read_run-clause-stays
-returns-in_err-read_run-clause-stays g c = c.read_run.ensures.stays
-
 pub returns-in_err-read_run-clause-ends : goal.returns-in_err-read_run-clause-ends
 returns-in_err-read_run-clause-ends g c =
     let p = err_from_is_err_and c.from_residual.result c.from_residual.ensures.1 in
     ends_err _ _ c.read_run.result c.from_residual.result _ _ c.in_err-read_run.was p.1 p.2 c.read_run.ensures.ends
-
-pub returns-clause-words : goal.returns-clause-words
-returns-clause-words g c = c.read_run.ensures.words
-
-pub returns-clause-stays : goal.returns-clause-stays
-returns-clause-stays g c = c.read_run.ensures.stays
 
 pub returns-clause-ends : goal.returns-clause-ends
 returns-clause-ends g c = record { later = c.read_run.ensures.ends.later; stays = λ stopped. c.in_ok-read_run.ensures.ends.cause ∙ stopped; cause = c.in_ok-read_run.ensures.ends.cause }

@@ -30,9 +30,6 @@ returns-clause-value g c =
     let fits = newest_at (g.R.RegionWords.count c.args.r.now) f f c.args.head c.in_ok-newest.newest c.requires.region refl c.requires.head (omega arith) c.in_ok-newest.ensures.value in
     sym fits.taken
 
-pub returns-then-head-eq0-clause-words : goal.returns-then-head-eq0-clause-words
-returns-then-head-eq0-clause-words g c = refl
-
 pub returns-then-head-eq0-clause-stays : goal.returns-then-head-eq0-clause-stays
 returns-then-head-eq0-clause-stays g c = stays_none c.args.r.now (g.met.R.RegionWords.rest_refl c.args.r.now) c.requires.ready
 
@@ -43,12 +40,6 @@ pub record_at-requires-clause-chain : goal.record_at-requires-clause-chain
 record_at-requires-clause-chain g c =
     (undo_records (g.R.RegionWords.words c.args.r.now), chain_at (g.R.RegionWords.count c.args.r.now) (g.R.RegionWords.words c.args.r.now) (g.R.RegionWords.words c.args.r.now) c.args.head c.requires.region refl c.requires.head)
 
-pub record_at-requires-clause-ready : goal.record_at-requires-clause-ready
-record_at-requires-clause-ready g c = c.requires.ready
-
-pub record_at-requires-clause-region : goal.record_at-requires-clause-region
-record_at-requires-clause-region g c = c.requires.region
-
 pub returns-in_err-newest-clause-value : goal.returns-in_err-newest-clause-value
 returns-in_err-newest-clause-value g c =
     let p = err_from_is_err_and c.from_residual.result c.from_residual.ensures.1 in
@@ -58,15 +49,3 @@ pub returns-in_err-newest-clause-ends : goal.returns-in_err-newest-clause-ends
 returns-in_err-newest-clause-ends g c =
     let p = err_from_is_err_and c.from_residual.result c.from_residual.ensures.1 in
     ends_err _ _ c.record_at.result c.from_residual.result _ _ c.in_err-newest.was p.1 p.2 c.record_at.ensures.ends
-
-pub returns-in_err-newest-clause-words : goal.returns-in_err-newest-clause-words
-returns-in_err-newest-clause-words g c = c.record_at.ensures.words
-
-pub returns-in_err-newest-clause-stays : goal.returns-in_err-newest-clause-stays
-returns-in_err-newest-clause-stays g c = c.record_at.ensures.stays
-
-pub returns-clause-words : goal.returns-clause-words
-returns-clause-words g c = c.record_at.ensures.words
-
-pub returns-clause-stays : goal.returns-clause-stays
-returns-clause-stays g c = c.record_at.ensures.stays

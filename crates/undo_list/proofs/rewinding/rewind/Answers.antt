@@ -10,12 +10,6 @@ use Rattle.undo_list.proofs.rewinding.rewind.Goals as goal
 pub returns-clause-ok : goal.returns-clause-ok
 returns-clause-ok g c = undone_by (g.R.RegionWords.count c.args.r.now) (g.R.RegionWords.words c.args.r.now) (g.R.RegionWords.words c.loop-head.r) c.loop-head.invariant.before (sym c.loop-head.invariant.head ∙ omega arith)
 
-pub read_header-requires-clause-ready : goal.read_header-requires-clause-ready
-read_header-requires-clause-ready g c = c.requires.ready
-
-pub read_header-requires-clause-region : goal.read_header-requires-clause-region
-read_header-requires-clause-region g c = c.requires.region
-
 pub loop-head-init : goal.loop-head-init
 loop-head-init g c =
     record {
@@ -28,18 +22,6 @@ loop-head-init g c =
       running = c.in_ok-header.ensures.ends.cause;
     }
 
-pub rewind_newest-requires-clause-ready : goal.rewind_newest-requires-clause-ready
-rewind_newest-requires-clause-ready g c = c.loop-head.invariant.stays.ready
-
-pub rewind_newest-requires-clause-region : goal.rewind_newest-requires-clause-region
-rewind_newest-requires-clause-region g c = c.loop-head.invariant.region
-
-pub rewind_newest-requires-clause-undo : goal.rewind_newest-requires-clause-undo
-rewind_newest-requires-clause-undo g c = c.loop-head.invariant.undo
-
-pub rewind_newest-requires-clause-head : goal.rewind_newest-requires-clause-head
-rewind_newest-requires-clause-head g c = c.loop-head.invariant.head
-
 pub returns-in_err-header-clause-ok : goal.returns-in_err-header-clause-ok
 returns-in_err-header-clause-ok g c =
     let p = err_from_is_err_and c.from_residual.result c.from_residual.ensures.1 in
@@ -48,12 +30,6 @@ returns-in_err-header-clause-ok g c =
 pub returns-in_err-header-clause-before : goal.returns-in_err-header-clause-before
 returns-in_err-header-clause-before g c =
     subst (λ w. Undoes (g.R.RegionWords.count c.args.r.now) (g.R.RegionWords.words c.args.r.now) w) (sym c.read_header.ensures.words) (undoes_refl (g.R.RegionWords.count c.args.r.now) (g.R.RegionWords.words c.args.r.now) c.requires.region)
-
-pub returns-in_err-header-clause-region : goal.returns-in_err-header-clause-region
-returns-in_err-header-clause-region g c = c.read_header.ensures.region
-
-pub returns-in_err-header-clause-stays : goal.returns-in_err-header-clause-stays
-returns-in_err-header-clause-stays g c = c.read_header.ensures.stays
 
 pub returns-in_err-header-clause-ends : goal.returns-in_err-header-clause-ends
 returns-in_err-header-clause-ends g c =
@@ -93,15 +69,6 @@ loop-head-preserved g c =
       later = le_trans inv.later now.ends.later;
       running = c.in_ok-head.ensures.ends.cause ∙ inv.running;
     }
-
-pub returns-clause-before : goal.returns-clause-before
-returns-clause-before g c = c.loop-head.invariant.before
-
-pub returns-clause-region : goal.returns-clause-region
-returns-clause-region g c = c.loop-head.invariant.region
-
-pub returns-clause-stays : goal.returns-clause-stays
-returns-clause-stays g c = c.loop-head.invariant.stays
 
 pub returns-clause-ends : goal.returns-clause-ends
 returns-clause-ends g c = record { later = c.loop-head.invariant.later; stays = λ stopped. c.loop-head.invariant.running ∙ stopped; cause = c.loop-head.invariant.running }

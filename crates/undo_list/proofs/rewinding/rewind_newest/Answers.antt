@@ -66,21 +66,9 @@ returns-clause-stays g c =
     let trans = g.met.R.RegionWords.rest_trans in
     stays_trans trans c.record_at.ensures.stays (stays_trans trans c.copy_words.ensures.stays c.set.ensures.stays)
 
-pub record_at-requires-clause-ready : goal.record_at-requires-clause-ready
-record_at-requires-clause-ready g c = c.requires.ready
-
-pub record_at-requires-clause-region : goal.record_at-requires-clause-region
-record_at-requires-clause-region g c = c.requires.region
-
 pub record_at-requires-clause-chain : goal.record_at-requires-clause-chain
 record_at-requires-clause-chain g c =
     (undo_records (g.R.RegionWords.words c.args.r.now), chain_at (g.R.RegionWords.count c.args.r.now) (g.R.RegionWords.words c.args.r.now) (g.R.RegionWords.words c.args.r.now) c.args.head c.requires.region refl c.requires.head)
-
-pub copy_words-requires-clause-ready : goal.copy_words-requires-clause-ready
-copy_words-requires-clause-ready g c = c.record_at.ensures.stays.ready
-
-pub set-requires-clause-ready : goal.set-requires-clause-ready
-set-requires-clause-ready g c = c.copy_words.ensures.stays.ready
 
 pub set-requires-clause-place : goal.set-requires-clause-place
 set-requires-clause-place g c = omega (arith, c.copy_words.ensures.stays.count, c.record_at.ensures.stays.count, c.requires.region.size)
@@ -93,9 +81,6 @@ returns-in_err-newest-clause-head g c =
 pub returns-in_err-newest-clause-before : goal.returns-in_err-newest-clause-before
 returns-in_err-newest-clause-before g c =
     subst (λ w. Undoes (g.R.RegionWords.count c.args.r.now) (g.R.RegionWords.words c.args.r.now) w) (sym c.record_at.ensures.words) (undoes_refl (g.R.RegionWords.count c.args.r.now) (g.R.RegionWords.words c.args.r.now) c.requires.region)
-
-pub returns-in_err-newest-clause-stays : goal.returns-in_err-newest-clause-stays
-returns-in_err-newest-clause-stays g c = c.record_at.ensures.stays
 
 pub returns-in_err-newest-clause-ends : goal.returns-in_err-newest-clause-ends
 returns-in_err-newest-clause-ends g c =

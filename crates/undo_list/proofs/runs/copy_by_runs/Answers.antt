@@ -23,9 +23,6 @@ loop-done-preserved g c =
       running = c.in_ok-copy_run.ensures.ends.cause ∙ inv.running;
     }
 
-pub copy_run-requires-clause-ready : goal.copy_run-requires-clause-ready
-copy_run-requires-clause-ready g c = c.loop-done.invariant.stays.ready
-
 pub returns-in_err-copy_run-clause-ok : goal.returns-in_err-copy_run-clause-ok
 returns-in_err-copy_run-clause-ok g c =
     let p = err_from_is_err_and c.from_residual.result c.from_residual.ensures.1 in
@@ -44,9 +41,6 @@ returns-clause-ok g c = c.loop-done.invariant.words ∙ ap (λ k. copied (g.R.Re
 
 pub returns-clause-front : goal.returns-clause-front
 returns-clause-front g c = (c.loop-done.done, c.loop-done.invariant.within, c.loop-done.invariant.words)
-
-pub returns-clause-stays : goal.returns-clause-stays
-returns-clause-stays g c = c.loop-done.invariant.stays
 
 pub returns-clause-ends : goal.returns-clause-ends
 returns-clause-ends g c = record { later = c.loop-done.invariant.later; stays = λ stopped. c.loop-done.invariant.running ∙ stopped; cause = c.loop-done.invariant.running }

@@ -3,9 +3,6 @@ use Rattle.std.proofs.lemmas.List.{length-take-le}
 use Rattle.undo_list.specs.Copies.{CopiedFront, copied}
 use Rattle.undo_list.proofs.runs.copy_middle.Goals as goal
 
-pub copy_run-requires-clause-ready : goal.copy_run-requires-clause-ready
-copy_run-requires-clause-ready g c = c.requires.ready
-
 pub copy_run-requires-clause-source : goal.copy_run-requires-clause-source
 copy_run-requires-clause-source g c = subst (λ n. c.args.from + n ≤ g.R.RegionWords.count c.args.r.now) (sym (length-take-le _ _ (omega (arith, c.requires.few)))) c.requires.source
 
@@ -17,9 +14,3 @@ returns-clause-ok g c = subst (λ n. OnOk c.copy_run.result (g.R.RegionWords.wor
 
 pub returns-clause-front : goal.returns-clause-front
 returns-clause-front g c = subst (λ n. CopiedFront (g.R.RegionWords.words c.args.r.now) (g.R.RegionWords.words c.copy_run.new.r) c.args.from c.args.to n) (length-take-le _ _ (omega (arith, c.requires.few))) c.copy_run.ensures.front
-
-pub returns-clause-stays : goal.returns-clause-stays
-returns-clause-stays g c = c.copy_run.ensures.stays
-
-pub returns-clause-ends : goal.returns-clause-ends
-returns-clause-ends g c = c.copy_run.ensures.ends

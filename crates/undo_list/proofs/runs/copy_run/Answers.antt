@@ -7,9 +7,6 @@ use Rattle.undo_list.proofs.Outcomes.{ends_err, on_word, word_ends}
 use Rattle.undo_list.specs.Copies.{copied}
 use Rattle.undo_list.proofs.runs.copy_run.Goals as goal
 
-pub read_run-requires-clause-ready : goal.read_run-requires-clause-ready
-read_run-requires-clause-ready g c = c.requires.ready
-
 pub returns-in_err-read_run-clause-ok : goal.returns-in_err-read_run-clause-ok
 returns-in_err-read_run-clause-ok g c =
     let p = err_from_is_err_and c.from_residual.result c.from_residual.ensures.1 in
@@ -18,25 +15,13 @@ returns-in_err-read_run-clause-ok g c =
 pub returns-in_err-read_run-clause-front : goal.returns-in_err-read_run-clause-front
 returns-in_err-read_run-clause-front g c = front_none (g.R.RegionWords.words c.args.r.now) (g.R.RegionWords.words c.read_run.new.self) c.args.from c.args.to (length c.args.run.now) c.read_run.ensures.words
 
-pub returns-in_err-read_run-clause-len : goal.returns-in_err-read_run-clause-len
-returns-in_err-read_run-clause-len g c = c.read_run.ensures.len
-
-pub returns-in_err-read_run-clause-stays : goal.returns-in_err-read_run-clause-stays
-returns-in_err-read_run-clause-stays g c = c.read_run.ensures.stays
-
 pub returns-in_err-read_run-clause-ends : goal.returns-in_err-read_run-clause-ends
 returns-in_err-read_run-clause-ends g c =
     let p = err_from_is_err_and c.from_residual.result c.from_residual.ensures.1 in
     ends_err _ _ c.read_run.result c.from_residual.result _ _ c.in_err-read_run.was p.1 p.2 c.read_run.ensures.ends
 
-pub set_run-requires-clause-ready : goal.set_run-requires-clause-ready
-set_run-requires-clause-ready g c = c.read_run.ensures.stays.ready
-
 pub set_run-requires-clause-place : goal.set_run-requires-clause-place
 set_run-requires-clause-place g c = omega (arith, c.read_run.ensures.stays.count, c.read_run.ensures.len, c.requires.target)
-
-pub returns-clause-len : goal.returns-clause-len
-returns-clause-len g c = c.read_run.ensures.len
 
 pub returns-clause-ok : goal.returns-clause-ok
 returns-clause-ok g c =

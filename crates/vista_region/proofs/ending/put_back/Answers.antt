@@ -2,12 +2,6 @@ use Rattle.vista_region.proofs.Common.{Ok, refl, sym, ◌≡◌, true_false, err
 use Rattle.vista_region.proofs.Exits.{told_ends, ends_handed, handed_fault, handed_told}
 use Rattle.vista_region.proofs.ending.put_back.Goals as goal
 
-pub rewind-requires-clause-ready : goal.rewind-requires-clause-ready
-rewind-requires-clause-ready g c = c.requires.ready
-
-pub rewind-requires-clause-region : goal.rewind-requires-clause-region
-rewind-requires-clause-region g c = c.requires.region
-
 pub returns-in_err-rewind-clause-ok : goal.returns-in_err-rewind-clause-ok
 returns-in_err-rewind-clause-ok g c =
     let p = err_from_is_err_and c.from_residual.result c.from_residual.ensures.1 in
@@ -28,26 +22,8 @@ returns-in_err-rewind-clause-causes g c =
     let p = err_from_is_err_and c.from_residual.result c.from_residual.ensures.1 in
     ends_handed _ _ c.rewind.result c.from_residual.result _ _ c.in_err-rewind.was p.1 p.2 c.rewind.ensures.ends
 
-pub returns-in_err-rewind-clause-before : goal.returns-in_err-rewind-clause-before
-returns-in_err-rewind-clause-before g c = c.rewind.ensures.before
-
-pub returns-in_err-rewind-clause-stays : goal.returns-in_err-rewind-clause-stays
-returns-in_err-rewind-clause-stays g c = c.rewind.ensures.stays
-
-pub returns-clause-before : goal.returns-clause-before
-returns-clause-before g c = c.rewind.ensures.before
-
-pub returns-clause-stays : goal.returns-clause-stays
-returns-clause-stays g c = c.rewind.ensures.stays
-
-pub returns-clause-ok : goal.returns-clause-ok
-returns-clause-ok g c = c.in_ok-rewind.ensures.ok
-
 pub returns-clause-told : goal.returns-clause-told
 returns-clause-told g c = λ err told. true_false (sym err)
-
-pub returns-clause-fault : goal.returns-clause-fault
-returns-clause-fault g c = tt
 
 pub returns-clause-causes : goal.returns-clause-causes
 returns-clause-causes g c = told_ends {T = Unit {0}} _ _ (Ok tt) tt c.rewind.ensures.ends.later c.in_ok-rewind.ensures.ends.cause

@@ -45,9 +45,6 @@ returns-clause-ends g c marks i m =
     free_done marks i (g.R.RegionWords.count c.args.r.now) f last c.args.at done.0 m c.if-at-ne0.false done.1 done.2 call.before
     (subst (λ t. heap_blocks (live last) (units_of f) ≡ without_block (heap_blocks (live f) (units_of f)) t) at call.listed)
 
-pub returns-then-at-ne0-clause-fault : goal.returns-then-at-ne0-clause-fault
-returns-then-at-ne0-clause-fault g c = tt
-
 pub returns-then-at-ne0-clause-heap : goal.returns-then-at-ne0-clause-heap
 returns-then-at-ne0-clause-heap g c = λ told. c.requires.heap
 
@@ -60,9 +57,6 @@ returns-then-at-ne0-clause-stays g c = stays_none c.args.r.now (g.met.R.RegionWo
 pub returns-then-at-ne0-clause-causes : goal.returns-then-at-ne0-clause-causes
 returns-then-at-ne0-clause-causes g c = told_ends {T = Unit {0}} _ _ (Err NotBlock) tt (le_refl _) refl
 
-pub returns-in_default-clause-fault : goal.returns-in_default-clause-fault
-returns-in_default-clause-fault g c = tt
-
 pub returns-in_default-clause-heap : goal.returns-in_default-clause-heap
 returns-in_default-clause-heap g c = λ told. c.requires.heap
 
@@ -74,15 +68,6 @@ returns-in_default-clause-stays g c = stays_none c.args.r.now (g.met.R.RegionWor
 
 pub returns-in_default-clause-causes : goal.returns-in_default-clause-causes
 returns-in_default-clause-causes g c = told_ends {T = Unit {0}} _ _ (Err NotBlock) tt (le_refl _) refl
-
-pub release-requires-clause-ready : goal.release-requires-clause-ready
-release-requires-clause-ready g c = c.requires.ready
-
-pub release-requires-clause-region : goal.release-requires-clause-region
-release-requires-clause-region g c = c.requires.region
-
-pub release-requires-clause-heap : goal.release-requires-clause-heap
-release-requires-clause-heap g c = c.requires.heap
 
 pub returns-in_err-release-clause-fault : goal.returns-in_err-release-clause-fault
 returns-in_err-release-clause-fault g c =
@@ -98,21 +83,6 @@ pub returns-in_err-release-clause-causes : goal.returns-in_err-release-clause-ca
 returns-in_err-release-clause-causes g c =
     let p = err_from_is_err_and c.from_residual.result c.from_residual.ensures.1 in
     ends_heap _ _ c.release.result c.from_residual.result _ _ c.in_err-release.was p.1 p.2 c.release.ensures.ends
-
-pub returns-in_err-release-clause-before : goal.returns-in_err-release-clause-before
-returns-in_err-release-clause-before g c = c.release.ensures.before
-
-pub returns-in_err-release-clause-stays : goal.returns-in_err-release-clause-stays
-returns-in_err-release-clause-stays g c = c.release.ensures.stays
-
-pub returns-clause-before : goal.returns-clause-before
-returns-clause-before g c = c.release.ensures.before
-
-pub returns-clause-stays : goal.returns-clause-stays
-returns-clause-stays g c = c.release.ensures.stays
-
-pub returns-clause-fault : goal.returns-clause-fault
-returns-clause-fault g c = tt
 
 pub returns-clause-heap : goal.returns-clause-heap
 returns-clause-heap g c = λ told. c.in_ok-release.ensures.heap

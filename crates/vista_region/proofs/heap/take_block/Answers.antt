@@ -43,9 +43,6 @@ returns-clause-ends g c marks i m =
     subst (λ (u : ℕ). DoneAs (alloc_on (region_now f) (txn_in marks i f) u) marks i last (says_unit c.in_ok-unit.unit)) same
     (alloc_done marks i (g.R.RegionWords.count c.args.r.now) f last c.in-Ok.units c.in_ok-unit.unit m c.requires.heap (omega (arith, same, c.requires.units)) call.ok call.room call.before call.listed)
 
-pub returns-in_default-clause-fault : goal.returns-in_default-clause-fault
-returns-in_default-clause-fault g c = tt
-
 pub returns-in_default-clause-heap : goal.returns-in_default-clause-heap
 returns-in_default-clause-heap g c = λ told. c.requires.heap
 
@@ -57,15 +54,6 @@ returns-in_default-clause-stays g c = stays_none c.args.r.now (g.met.R.RegionWor
 
 pub returns-in_default-clause-causes : goal.returns-in_default-clause-causes
 returns-in_default-clause-causes g c = told_ends {T = ℕ} _ _ (Err HeapFull) tt (le_refl _) refl
-
-pub allocate-requires-clause-ready : goal.allocate-requires-clause-ready
-allocate-requires-clause-ready g c = c.requires.ready
-
-pub allocate-requires-clause-region : goal.allocate-requires-clause-region
-allocate-requires-clause-region g c = c.requires.region
-
-pub allocate-requires-clause-heap : goal.allocate-requires-clause-heap
-allocate-requires-clause-heap g c = c.requires.heap
 
 pub returns-in_err-unit-clause-fault : goal.returns-in_err-unit-clause-fault
 returns-in_err-unit-clause-fault g c =
@@ -81,21 +69,6 @@ pub returns-in_err-unit-clause-causes : goal.returns-in_err-unit-clause-causes
 returns-in_err-unit-clause-causes g c =
     let p = err_from_is_err_and c.from_residual.result c.from_residual.ensures.1 in
     ends_heap _ _ c.allocate.result c.from_residual.result _ _ c.in_err-unit.was p.1 p.2 c.allocate.ensures.ends
-
-pub returns-in_err-unit-clause-before : goal.returns-in_err-unit-clause-before
-returns-in_err-unit-clause-before g c = c.allocate.ensures.before
-
-pub returns-in_err-unit-clause-stays : goal.returns-in_err-unit-clause-stays
-returns-in_err-unit-clause-stays g c = c.allocate.ensures.stays
-
-pub returns-clause-before : goal.returns-clause-before
-returns-clause-before g c = c.allocate.ensures.before
-
-pub returns-clause-stays : goal.returns-clause-stays
-returns-clause-stays g c = c.allocate.ensures.stays
-
-pub returns-clause-fault : goal.returns-clause-fault
-returns-clause-fault g c = tt
 
 pub returns-clause-heap : goal.returns-clause-heap
 returns-clause-heap g c = λ told. c.in_ok-unit.ensures.heap

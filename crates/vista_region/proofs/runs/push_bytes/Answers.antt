@@ -53,23 +53,8 @@ returns-in_err-push_run-clause-ends g c =
     let p = err_from_is_err_and c.from_residual.result c.from_residual.ensures.1 in
     ends_by_after _ _ _ _ _ c.loop-at.invariant.later c.loop-at.invariant.running (ends_read _ _ c.push_run.result c.from_residual.result _ _ c.in_err-push_run.was p.1 p.2 c.push_run.ensures.ends)
 
-pub returns-clause-told : goal.returns-clause-told
-returns-clause-told g c = tt
-
-pub returns-clause-words : goal.returns-clause-words
-returns-clause-words g c = c.loop-at.invariant.words
-
-pub returns-clause-stays : goal.returns-clause-stays
-returns-clause-stays g c = c.loop-at.invariant.stays
-
 pub returns-clause-ends : goal.returns-clause-ends
 returns-clause-ends g c = read_ends _ _ _ c.loop-at.invariant.later c.loop-at.invariant.running
-
-pub push_run-requires-clause-ready : goal.push_run-requires-clause-ready
-push_run-requires-clause-ready g c = c.loop-at.invariant.stays.ready
-
-pub push_run-requires-clause-region : goal.push_run-requires-clause-region
-push_run-requires-clause-region g c = c.loop-at.invariant.region
 
 pub loop-at-init : goal.loop-at-init
 loop-at-init g c = record {

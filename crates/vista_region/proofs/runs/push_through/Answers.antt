@@ -6,15 +6,6 @@ use Rattle.vista_region.proofs.runs.push_through.Goals as goal
 pub returns-clause-bytes : goal.returns-clause-bytes
 returns-clause-bytes g c = c.in_ok-push_line.ensures ∙ ap (λ bs. c.args.out.now.items ++ bs) (bytes_read (live (g.R.RegionWords.words c.args.r.now)) c.args.place _ _ c.args.from c.args.to c.in_ok-read_places.ensures.value c.requires.within)
 
-pub read_places-requires-clause-ready : goal.read_places-requires-clause-ready
-read_places-requires-clause-ready g c = c.requires.ready
-
-pub read_places-requires-clause-region : goal.read_places-requires-clause-region
-read_places-requires-clause-region g c = c.requires.region
-
-pub read_places-requires-clause-place : goal.read_places-requires-clause-place
-read_places-requires-clause-place g c = c.requires.place
-
 pub returns-in_err-read_places-clause-told : goal.returns-in_err-read_places-clause-told
 returns-in_err-read_places-clause-told g c =
     let p = err_from_is_err_and c.from_residual.result c.from_residual.ensures.1 in
@@ -45,26 +36,5 @@ returns-in_err-push_line-clause-ends g c =
     let p = err_from_is_err_and c.from_residual-in_err-push_line.result c.from_residual-in_err-push_line.ensures.1 in
     read_memory _ _ c.from_residual-in_err-push_line.result _ p.1 p.2 c.read_places.ensures.ends.later c.in_ok-read_places.ensures.ends.cause
 
-pub returns-clause-told : goal.returns-clause-told
-returns-clause-told g c = tt
-
 pub returns-clause-ends : goal.returns-clause-ends
 returns-clause-ends g c = read_ends _ _ _ c.read_places.ensures.ends.later c.in_ok-read_places.ensures.ends.cause
-
-pub returns-in_err-read_places-clause-words : goal.returns-in_err-read_places-clause-words
-returns-in_err-read_places-clause-words g c = c.read_places.ensures.words
-
-pub returns-in_err-read_places-clause-stays : goal.returns-in_err-read_places-clause-stays
-returns-in_err-read_places-clause-stays g c = c.read_places.ensures.stays
-
-pub returns-in_err-push_line-clause-words : goal.returns-in_err-push_line-clause-words
-returns-in_err-push_line-clause-words g c = c.read_places.ensures.words
-
-pub returns-in_err-push_line-clause-stays : goal.returns-in_err-push_line-clause-stays
-returns-in_err-push_line-clause-stays g c = c.read_places.ensures.stays
-
-pub returns-clause-words : goal.returns-clause-words
-returns-clause-words g c = c.read_places.ensures.words
-
-pub returns-clause-stays : goal.returns-clause-stays
-returns-clause-stays g c = c.read_places.ensures.stays

@@ -54,9 +54,6 @@ loop-done-preserved g c =
       running = call.ends.cause ∙ inv.running;
     }
 
-pub returns-in-Err-Fault-clause-ok : goal.returns-in-Err-Fault-clause-ok
-returns-in-Err-Fault-clause-ok g c = tt
-
 pub returns-in-Err-Fault-clause-keeps : goal.returns-in-Err-Fault-clause-keeps
 returns-in-Err-Fault-clause-keeps g c = keeps_trans (g.R.RegionWords.count c.args.r.now) (g.R.RegionWords.words c.args.r.now) (g.R.RegionWords.words c.loop-done.r) (g.R.RegionWords.words c.put_run.new.r) c.loop-done.invariant.puts.keeps (subst (λ k. Keeps k (g.R.RegionWords.words c.loop-done.r) (g.R.RegionWords.words c.put_run.new.r)) c.loop-done.invariant.stays.count c.put_run.ensures.keeps)
 
@@ -65,12 +62,6 @@ returns-in-Err-Fault-clause-stays g c = stays_trans g.met.R.RegionWords.rest_tra
 
 pub returns-in-Err-Fault-clause-ends : goal.returns-in-Err-Fault-clause-ends
 returns-in-Err-Fault-clause-ends g c = ends_later _ _ _ _ c.loop-done.invariant.later c.loop-done.invariant.running (subst (λ (e : RunFail). Ends (g.R.RegionWords.health c.loop-done.r) (g.R.RegionWords.health c.put_run.new.r) (as_word {T = Unit {0}} (Err e))) c.in-Err-Fault.field-0-is c.in-Err-Fault.ensures.ends)
-
-pub returns-in-Err-Stopped-clause-ok : goal.returns-in-Err-Stopped-clause-ok
-returns-in-Err-Stopped-clause-ok g c = tt
-
-pub returns-in-Err-Stopped-clause-fault : goal.returns-in-Err-Stopped-clause-fault
-returns-in-Err-Stopped-clause-fault g c = tt
 
 pub returns-in-Err-Stopped-clause-keeps : goal.returns-in-Err-Stopped-clause-keeps
 returns-in-Err-Stopped-clause-keeps g c = keeps_trans (g.R.RegionWords.count c.args.r.now) (g.R.RegionWords.words c.args.r.now) (g.R.RegionWords.words c.loop-done.r) (g.R.RegionWords.words c.put_run.new.r) c.loop-done.invariant.puts.keeps (subst (λ k. Keeps k (g.R.RegionWords.words c.loop-done.r) (g.R.RegionWords.words c.put_run.new.r)) c.loop-done.invariant.stays.count c.put_run.ensures.keeps)
@@ -84,23 +75,8 @@ returns-in-Err-Stopped-clause-ends g c = ends_later _ _ _ _ c.loop-done.invarian
 pub returns-clause-ok : goal.returns-clause-ok
 returns-clause-ok g c = subst (λ k. Puts (g.R.RegionWords.count c.args.r.now) (g.R.RegionWords.words c.args.r.now) (g.R.RegionWords.words c.loop-done.r) c.args.place k (words_of c.args.bytes.now)) (omega (arith, c.loop-done.invariant.within, c.loop-done-test.false)) c.loop-done.invariant.puts
 
-pub returns-clause-fault : goal.returns-clause-fault
-returns-clause-fault g c = tt
-
-pub returns-clause-keeps : goal.returns-clause-keeps
-returns-clause-keeps g c = c.loop-done.invariant.puts.keeps
-
-pub returns-clause-stays : goal.returns-clause-stays
-returns-clause-stays g c = c.loop-done.invariant.stays
-
 pub returns-clause-ends : goal.returns-clause-ends
 returns-clause-ends g c = record { later = c.loop-done.invariant.later; stays = λ stopped. c.loop-done.invariant.running ∙ stopped; cause = c.loop-done.invariant.running }
-
-pub put_run-requires-clause-ready : goal.put_run-requires-clause-ready
-put_run-requires-clause-ready g c = c.loop-done.invariant.stays.ready
-
-pub put_run-requires-clause-region : goal.put_run-requires-clause-region
-put_run-requires-clause-region g c = c.loop-done.invariant.region
 
 pub put_run-requires-clause-undo : goal.put_run-requires-clause-undo
 put_run-requires-clause-undo g c = c.requires.undo ∙ sym c.loop-done.invariant.puts.keeps.undoes.sizes.undo

@@ -12,15 +12,6 @@ returns-clause-fault g c =
     let room = c.read_u64_into.new.dst in
     stored_fault c.put_covered_run.result (g.R.RegionWords.count c.args.r.now) (g.R.RegionWords.words c.args.r.now) (g.R.RegionWords.words c.put_covered_run.new.r) c.args.place c.args.bytes.now room (words_read c.args.bytes.now room (omega (arith, c.requires.room, c.read_u64_into.auto.dst)) c.read_u64_into.ensures) c.put_covered_run.ensures.fault
 
-pub put_covered_run-requires-clause-ready : goal.put_covered_run-requires-clause-ready
-put_covered_run-requires-clause-ready g c = c.requires.ready
-
-pub put_covered_run-requires-clause-region : goal.put_covered_run-requires-clause-region
-put_covered_run-requires-clause-region g c = c.requires.region
-
-pub put_covered_run-requires-clause-undo : goal.put_covered_run-requires-clause-undo
-put_covered_run-requires-clause-undo g c = c.requires.undo
-
 pub put_covered_run-requires-clause-place : goal.put_covered_run-requires-clause-place
 put_covered_run-requires-clause-place g c = omega (arith, c.requires.place, c.requires.room, c.read_u64_into.auto.dst)
 
@@ -28,12 +19,3 @@ pub put_covered_run-requires-clause-covered : goal.put_covered_run-requires-clau
 put_covered_run-requires-clause-covered g c =
     let long : length c.args.bytes.now / 8 ≡ length c.read_u64_into.new.dst = omega (arith, c.requires.room, c.read_u64_into.auto.dst) in
     subst (λ k. CoversAll (undo_records (g.R.RegionWords.words c.args.r.now)) c.args.place k) long c.requires.covered
-
-pub returns-clause-keeps : goal.returns-clause-keeps
-returns-clause-keeps g c = c.put_covered_run.ensures.front.2.keeps
-
-pub returns-clause-stays : goal.returns-clause-stays
-returns-clause-stays g c = c.put_covered_run.ensures.stays
-
-pub returns-clause-ends : goal.returns-clause-ends
-returns-clause-ends g c = c.put_covered_run.ensures.ends

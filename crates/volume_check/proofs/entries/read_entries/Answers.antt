@@ -32,18 +32,3 @@ returns-clause-words g c =
 
 pub returns-clause-looked : goal.returns-clause-looked
 returns-clause-looked g c = looked_quiet g.V.Blocks.seen g.V.Blocks.health g.V.Blocks.sound g.V.Blocks.passes _ _ _ _ tt tt c.in_ok-words.ensures.looked
-
-pub read_front-requires-clause-can : goal.read_front-requires-clause-can
-read_front-requires-clause-can g c = c.requires.can
-
-pub read_front-requires-clause-inodes : goal.read_front-requires-clause-inodes
-read_front-requires-clause-inodes g c = c.requires.inodes
-
-pub read_front-requires-clause-sizes : goal.read_front-requires-clause-sizes
-read_front-requires-clause-sizes g c = c.requires.mapped.laid.sizes
-
-pub read_front-requires-clause-numbers : goal.read_front-requires-clause-numbers
-read_front-requires-clause-numbers g c = c.requires.mapped.laid.numbers
-
-pub read_front-requires-clause-ino : goal.read_front-requires-clause-ino
-read_front-requires-clause-ino g c = c.requires.ino

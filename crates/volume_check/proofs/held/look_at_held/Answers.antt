@@ -85,12 +85,3 @@ returns-clause-ok g c = on_ok_then c.look_at_each-3.result (λ h. reads_all c.ar
 
 pub returns-clause-looked : goal.returns-clause-looked
 returns-clause-looked g c = looked_then g.V.Blocks.seen g.V.Blocks.health g.V.Blocks.sound g.V.Blocks.passes g.met.V.Blocks.passes_trans c.args.v.now c.look_at_tree.new.v c.look_at_each-3.new.v (Ok tt) c.look_at_each-3.result tt (on_ok g.V.Blocks.seen g.V.Blocks.health g.V.Blocks.sound g.V.Blocks.passes g.met.V.Blocks.passes_trans c.args.v.now c.look_at_each-2.new.v c.look_at_tree.new.v _ (on_ok g.V.Blocks.seen g.V.Blocks.health g.V.Blocks.sound g.V.Blocks.passes g.met.V.Blocks.passes_trans c.args.v.now c.look_at_each.new.v c.look_at_each-2.new.v _ (on_first g.V.Blocks.seen g.V.Blocks.health g.V.Blocks.sound g.V.Blocks.passes c.args.v.now c.look_at_each.new.v _ c.in_ok-look_at_each.ensures.looked) c.in_ok-look_at_each-2.ensures.looked) c.in_ok-look_at_tree.ensures.looked) c.look_at_each-3.ensures.looked
-
-pub look_at_each-requires-clause-before : goal.look_at_each-requires-clause-before
-look_at_each-requires-clause-before g c = c.requires.mapped
-
-pub look_at_each-requires-clause-can : goal.look_at_each-requires-clause-can
-look_at_each-requires-clause-can g c = c.requires.can
-
-pub look_at_each-requires-clause-inodes : goal.look_at_each-requires-clause-inodes
-look_at_each-requires-clause-inodes g c = c.requires.inodes

@@ -40,6 +40,3 @@ returns-clause-bitmap g c =
 
 pub returns-clause-looked : goal.returns-clause-looked
 returns-clause-looked g c = looked_quiet g.V.Blocks.seen g.V.Blocks.health g.V.Blocks.sound g.V.Blocks.passes _ _ _ _ tt tt c.in_ok-push_block.ensures.looked
-
-pub push_block-requires-clause-can : goal.push_block-requires-clause-can
-push_block-requires-clause-can g c = c.requires.can

@@ -66,17 +66,5 @@ returns-clause-counts g c =
 pub returns-then-kind-ne-DIRECTORY-clause-looked : goal.returns-then-kind-ne-DIRECTORY-clause-looked
 returns-then-kind-ne-DIRECTORY-clause-looked g c = looked_none g.V.Blocks.seen g.V.Blocks.health g.V.Blocks.sound g.V.Blocks.passes c.args.v.now _ (g.met.V.Blocks.passes_refl c.args.v.now) c.requires.can.keeps tt
 
-pub read_entries-requires-clause-can : goal.read_entries-requires-clause-can
-read_entries-requires-clause-can g c = c.requires.can
-
-pub read_entries-requires-clause-inodes : goal.read_entries-requires-clause-inodes
-read_entries-requires-clause-inodes g c = c.requires.inodes
-
-pub read_entries-requires-clause-mapped : goal.read_entries-requires-clause-mapped
-read_entries-requires-clause-mapped g c = c.requires.mapped
-
-pub read_entries-requires-clause-ino : goal.read_entries-requires-clause-ino
-read_entries-requires-clause-ino g c = c.requires.ino
-
 pub read_entries-requires-clause-directory : goal.read_entries-requires-clause-directory
 read_entries-requires-clause-directory g c = sym c.kind.ensures ∙ c.if-kind-ne-DIRECTORY.false

@@ -59,17 +59,5 @@ returns-then-kind-ne-DIRECTORY-clause-keeps g c = (
   λ h. refl,
 )
 
-pub read_entries-requires-clause-can : goal.read_entries-requires-clause-can
-read_entries-requires-clause-can g c = c.requires.can
-
-pub read_entries-requires-clause-inodes : goal.read_entries-requires-clause-inodes
-read_entries-requires-clause-inodes g c = c.requires.inodes
-
-pub read_entries-requires-clause-mapped : goal.read_entries-requires-clause-mapped
-read_entries-requires-clause-mapped g c = c.requires.mapped
-
-pub read_entries-requires-clause-ino : goal.read_entries-requires-clause-ino
-read_entries-requires-clause-ino g c = c.requires.ino
-
 pub read_entries-requires-clause-directory : goal.read_entries-requires-clause-directory
 read_entries-requires-clause-directory g c = sym c.kind.ensures ∙ c.if-kind-ne-DIRECTORY.false

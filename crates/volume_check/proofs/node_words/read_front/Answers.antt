@@ -94,12 +94,3 @@ returns-clause-words g c =
     let i = c.args.i.0 in
     let end : c.loop-page.page ≡ c.args.count = omega (arith, c.loop-page-test.false) in
     front_held n.shape s.words i c.args.count c.loop-page.words.items c.requires.ino (subst (λ x. 0 < x) (kind_said s n i c.requires.inodes c.requires.ino) c.requires.used) (subst (λ k. HasBlocks s.words (λ p. ((layout_of s n).node i).block (AtPage p)) k c.loop-page.words.items) end c.loop-page.invariant.read)
-
-pub read_numbers-requires-clause-can : goal.read_numbers-requires-clause-can
-read_numbers-requires-clause-can g c = c.requires.can
-
-pub read_numbers-requires-clause-ino : goal.read_numbers-requires-clause-ino
-read_numbers-requires-clause-ino g c = c.requires.ino
-
-pub read_numbers-requires-clause-inodes : goal.read_numbers-requires-clause-inodes
-read_numbers-requires-clause-inodes g c = c.requires.inodes

@@ -43,12 +43,3 @@ read_numbers-requires-clause-numbers g c =
 
 pub returns-then-not-has_table_in_range-clause-looked : goal.returns-then-not-has_table_in_range-clause-looked
 returns-then-not-has_table_in_range-clause-looked g c = looked_none g.V.Blocks.seen g.V.Blocks.health g.V.Blocks.sound g.V.Blocks.passes c.args.v.now _ (g.met.V.Blocks.passes_refl c.args.v.now) c.requires.can.keeps tt
-
-pub read_numbers-requires-clause-can : goal.read_numbers-requires-clause-can
-read_numbers-requires-clause-can g c = c.requires.can
-
-pub read_numbers-requires-clause-ino : goal.read_numbers-requires-clause-ino
-read_numbers-requires-clause-ino g c = c.requires.ino
-
-pub read_numbers-requires-clause-inodes : goal.read_numbers-requires-clause-inodes
-read_numbers-requires-clause-inodes g c = c.requires.inodes

@@ -18,9 +18,6 @@ loop-page-preserved c =
       found = λ s h. block_more (numbers c.args.blocks.now.items) ((layout_of s c.args.inodes.now).node c.args.i.0) 0 c.loop-page.page c.loop-page.page c.loop-page.blocks.items c.push.new.self.items _ (omega arith) (inv.found s h) c.in_ok-push.ensures.items (c.direct.ensures ∙ direct_said s c.args.inodes.now c.args.i.0 c.loop-page.page h c.requires.ino (omega (arith, less, end)));
     }
 
-pub direct-requires-clause-ino : goal.direct-requires-clause-ino
-direct-requires-clause-ino c = c.requires.ino
-
 pub direct-requires-clause-page : goal.direct-requires-clause-page
 direct-requires-clause-page c = omega (arith, c.loop-page-test.true, c.requires.end)
 

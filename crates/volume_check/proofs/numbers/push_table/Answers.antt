@@ -55,11 +55,5 @@ returns-clause-numbers g c =
 pub returns-clause-looked : goal.returns-clause-looked
 returns-clause-looked g c = looked_quiet g.V.Blocks.seen g.V.Blocks.health g.V.Blocks.sound g.V.Blocks.passes _ _ _ _ tt tt c.in_ok-read_words.ensures.looked
 
-pub read_words-requires-clause-can : goal.read_words-requires-clause-can
-read_words-requires-clause-can g c = c.requires.can
-
 pub push_later-requires-clause-past : goal.push_later-requires-clause-past
 push_later-requires-clause-past g c = let past = c.requires.past in omega (arith, past)
-
-pub returns-clause-unrefused : goal.returns-clause-unrefused
-returns-clause-unrefused g c = tt

@@ -92,18 +92,3 @@ returns-in_err-push_table-clause-looked g c =
 
 pub returns-clause-looked : goal.returns-clause-looked
 returns-clause-looked g c = looked_quiet g.V.Blocks.seen g.V.Blocks.health g.V.Blocks.sound g.V.Blocks.passes _ _ _ _ tt tt c.in_ok-push_table.ensures.looked
-
-pub push_table-requires-clause-can : goal.push_table-requires-clause-can
-push_table-requires-clause-can g c = c.requires.can
-
-pub push_table-requires-clause-inodes : goal.push_table-requires-clause-inodes
-push_table-requires-clause-inodes g c = c.requires.inodes
-
-pub push_table-requires-clause-ino : goal.push_table-requires-clause-ino
-push_table-requires-clause-ino g c = c.requires.ino
-
-pub push_table-requires-clause-numbers : goal.push_table-requires-clause-numbers
-push_table-requires-clause-numbers g c = c.requires.numbers
-
-pub push_direct-requires-clause-ino : goal.push_direct-requires-clause-ino
-push_direct-requires-clause-ino g c = c.requires.ino

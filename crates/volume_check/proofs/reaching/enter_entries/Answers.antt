@@ -36,9 +36,6 @@ enter-requires-clause-ino g c =
     let read = entry_read n.shape held d c.loop-j.j c.named_ino.result.0 c.in_ok-words.words.items (holds_within n.shape s.words) c.requires.entries dir c.in_ok-words.ensures.words (omega arith) (c.named_ino.ensures ∙ ap (λ (xs : List ℕ). ino_in (slice_index xs) c.loop-j.j) c.deref.ensures.value) in
     read.is_ino
 
-pub enter-requires-clause-len : goal.enter-requires-clause-len
-enter-requires-clause-len g c = c.loop-j.invariant.found.len
-
 pub returns-in_err-enter-clause-looked : goal.returns-in_err-enter-clause-looked
 returns-in_err-enter-clause-looked g c =
     let p = err_from_is_err_and c.from_residual-in_err-enter.result c.from_residual-in_err-enter.ensures.1 in
@@ -66,12 +63,6 @@ loop-j-preserved g c =
       ];
     }
 
-pub returns-clause-found : goal.returns-clause-found
-returns-clause-found g c = c.loop-j.invariant.found
-
-pub returns-clause-grows : goal.returns-clause-grows
-returns-clause-grows g c = c.loop-j.invariant.grows
-
 pub returns-clause-all : goal.returns-clause-all
 returns-clause-all g c = λ j entry. c.loop-j.invariant.entered j (let less = entries_end (held_of c.args.inodes.now.shape (g.V.Blocks.seen c.args.v.now).words) c.args.i.0 c.in_ok-words.words.items c.in_ok-words.ensures.words j entry in let end = c.loop-j-test.false in omega arith) entry
 
@@ -80,17 +71,5 @@ returns-in_err-enter-clause-unrefused g c =
     let p = err_from_is_err_and c.from_residual-in_err-enter.result c.from_residual-in_err-enter.ensures.1 in
     refused_memory (λ _ _. ⊥) c.from_residual-in_err-enter.result p.0 p.1 p.2
 
-pub read_entries-requires-clause-can : goal.read_entries-requires-clause-can
-read_entries-requires-clause-can g c = c.requires.can
-
-pub read_entries-requires-clause-inodes : goal.read_entries-requires-clause-inodes
-read_entries-requires-clause-inodes g c = c.requires.inodes
-
-pub read_entries-requires-clause-mapped : goal.read_entries-requires-clause-mapped
-read_entries-requires-clause-mapped g c = c.requires.mapped
-
 pub read_entries-requires-clause-ino : goal.read_entries-requires-clause-ino
 read_entries-requires-clause-ino g c = c.requires.found.inos c.args.i.0 c.requires.reached
-
-pub read_entries-requires-clause-directory : goal.read_entries-requires-clause-directory
-read_entries-requires-clause-directory g c = c.requires.directory

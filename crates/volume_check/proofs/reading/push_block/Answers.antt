@@ -29,6 +29,3 @@ returns-clause-words g c = pushed (g.V.Blocks.seen c.args.v.now).words c.args.b.
 
 pub returns-clause-looked : goal.returns-clause-looked
 returns-clause-looked g c = looked_quiet g.V.Blocks.seen g.V.Blocks.health g.V.Blocks.sound g.V.Blocks.passes _ _ _ _ tt tt c.in_ok-read_words.ensures.looked
-
-pub read_words-requires-clause-can : goal.read_words-requires-clause-can
-read_words-requires-clause-can g c = c.requires.can

@@ -98,21 +98,3 @@ returns-in_err-words-clause-looked g c =
 
 pub returns-clause-looked : goal.returns-clause-looked
 returns-clause-looked g c = on_quiet g.V.Blocks.seen g.V.Blocks.health g.V.Blocks.sound g.V.Blocks.passes c.args.v.now c.read_front-2.new.v _ tt (on_ok g.V.Blocks.seen g.V.Blocks.health g.V.Blocks.sound g.V.Blocks.passes g.met.V.Blocks.passes_trans c.args.v.now c.read_front.new.v c.read_front-2.new.v _ (on_first g.V.Blocks.seen g.V.Blocks.health g.V.Blocks.sound g.V.Blocks.passes _ _ _ c.in_ok-header.ensures.looked) c.in_ok-words.ensures.looked)
-
-pub read_front-requires-clause-can : goal.read_front-requires-clause-can
-read_front-requires-clause-can g c = c.requires.can
-
-pub read_front-requires-clause-inodes : goal.read_front-requires-clause-inodes
-read_front-requires-clause-inodes g c = c.requires.inodes
-
-pub read_front-requires-clause-sizes : goal.read_front-requires-clause-sizes
-read_front-requires-clause-sizes g c = c.requires.mapped.laid.sizes
-
-pub read_front-requires-clause-numbers : goal.read_front-requires-clause-numbers
-read_front-requires-clause-numbers g c = c.requires.mapped.laid.numbers
-
-pub read_front-requires-clause-ino : goal.read_front-requires-clause-ino
-read_front-requires-clause-ino g c = c.requires.ino
-
-pub read_front-requires-2-clause-ino : goal.read_front-requires-2-clause-ino
-read_front-requires-2-clause-ino g c = c.requires.ino

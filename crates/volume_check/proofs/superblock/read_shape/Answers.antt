@@ -23,6 +23,3 @@ returns-in-Some-clause-looked g c = looked_quiet g.V.Blocks.seen g.V.Blocks.heal
 
 pub returns-in-None-clause-looked : goal.returns-in-None-clause-looked
 returns-in-None-clause-looked g c = looked_quiet g.V.Blocks.seen g.V.Blocks.health g.V.Blocks.sound g.V.Blocks.passes _ _ _ _ tt tt c.in_ok-read_words.ensures.looked
-
-pub read_words-requires-clause-can : goal.read_words-requires-clause-can
-read_words-requires-clause-can g c = c.requires.can

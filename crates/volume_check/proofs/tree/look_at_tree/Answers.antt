@@ -68,15 +68,3 @@ returns-in-Some-clause-looked g c = on_quiet g.V.Blocks.seen g.V.Blocks.health g
 
 pub returns-clause-looked : goal.returns-clause-looked
 returns-clause-looked g c = on_quiet g.V.Blocks.seen g.V.Blocks.health g.V.Blocks.sound g.V.Blocks.passes _ _ _ tt (on_ok g.V.Blocks.seen g.V.Blocks.health g.V.Blocks.sound g.V.Blocks.passes g.met.V.Blocks.passes_trans c.args.v.now c.count_names.new.v c.reach_all.new.v _ (on_first g.V.Blocks.seen g.V.Blocks.health g.V.Blocks.sound g.V.Blocks.passes _ _ _ c.in_ok-counts.ensures.looked) c.in_ok-reached.ensures.looked)
-
-pub count_names-requires-clause-can : goal.count_names-requires-clause-can
-count_names-requires-clause-can g c = c.requires.can
-
-pub count_names-requires-clause-inodes : goal.count_names-requires-clause-inodes
-count_names-requires-clause-inodes g c = c.requires.inodes
-
-pub count_names-requires-clause-mapped : goal.count_names-requires-clause-mapped
-count_names-requires-clause-mapped g c = c.requires.mapped
-
-pub count_names-requires-clause-entries : goal.count_names-requires-clause-entries
-count_names-requires-clause-entries g c = c.requires.entries

@@ -98,9 +98,3 @@ returns-clause-owners g c = layout_back (g.V.Blocks.seen c.args.v.now) _ c.args.
 
 pub returns-clause-looked : goal.returns-clause-looked
 returns-clause-looked g c = on_quiet g.V.Blocks.seen g.V.Blocks.health g.V.Blocks.sound g.V.Blocks.passes _ _ _ tt (on_ok g.V.Blocks.seen g.V.Blocks.health g.V.Blocks.sound g.V.Blocks.passes g.met.V.Blocks.passes_trans _ _ _ _ (on_first g.V.Blocks.seen g.V.Blocks.health g.V.Blocks.sound g.V.Blocks.passes _ _ _ c.in_ok-look_at_each.ensures.looked) c.in_ok-owners.ensures.looked)
-
-pub look_at_each-requires-clause-can : goal.look_at_each-requires-clause-can
-look_at_each-requires-clause-can g c = c.requires.can
-
-pub look_at_each-requires-clause-inodes : goal.look_at_each-requires-clause-inodes
-look_at_each-requires-clause-inodes g c = c.requires.read.inodes

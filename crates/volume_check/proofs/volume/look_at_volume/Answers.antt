@@ -110,9 +110,6 @@ returns-in_err-look_at_held-clause-sound g c =
     let p = err_from_is_err_and c.from_residual-in_err-look_at_held.result c.from_residual-in_err-look_at_held.ensures.1 in
     (on_err g.V.Blocks.seen g.V.Blocks.health g.V.Blocks.sound g.V.Blocks.passes g.met.V.Blocks.passes_trans _ _ _ c.look_at_held.result c.from_residual-in_err-look_at_held.result _ p.0 (on_ok g.V.Blocks.seen g.V.Blocks.health g.V.Blocks.sound g.V.Blocks.passes g.met.V.Blocks.passes_trans _ _ _ _ (on_first g.V.Blocks.seen g.V.Blocks.health g.V.Blocks.sound g.V.Blocks.passes _ _ _ c.in_ok-bitmap.ensures.looked) c.in_ok-owners.ensures.looked) c.in_err-look_at_held.was p.1 p.2 c.look_at_held.ensures.looked).keeps
 
-pub count_volume-requires-clause-served : goal.count_volume-requires-clause-served
-count_volume-requires-clause-served g c = c.in_ok-bitmap.ensures.read.inodes.served
-
 pub count_volume-requires-clause-sizes : goal.count_volume-requires-clause-sizes
 count_volume-requires-clause-sizes g c =
     let s = g.V.Blocks.seen c.args.v.now in

@@ -4,77 +4,26 @@ use Rattle.rio_base.proofs.BlockRules.{shape_dropped, still_unnamed}
 use Rattle.volume_tests.proofs.Touched.{has_touched, stays_touched}
 use Rattle.volume_tests.proofs.bitmap_tests.change.Goals as goal
 
-pub returns-in_err-begin-clause-sound : goal.returns-in_err-begin-clause-sound
-returns-in_err-begin-clause-sound g c = c.begin.ensures.sound
-
-pub returns-in_err-begin-clause-count : goal.returns-in_err-begin-clause-count
-returns-in_err-begin-clause-count g c = c.begin.ensures.looks.count
-
-pub returns-in_err-touch-clause-sound : goal.returns-in_err-touch-clause-sound
-returns-in_err-touch-clause-sound g c = c.touch.ensures.sound
-
 pub returns-in_err-touch-clause-count : goal.returns-in_err-touch-clause-count
 returns-in_err-touch-clause-count g c = c.touch.ensures.looks.count ∙ c.begin.ensures.looks.count
-
-pub returns-in_err-mark-clause-sound : goal.returns-in_err-mark-clause-sound
-returns-in_err-mark-clause-sound g c = c.mark.ensures.sound
 
 pub returns-in_err-mark-clause-count : goal.returns-in_err-mark-clause-count
 returns-in_err-mark-clause-count g c = c.mark.ensures.shape.count ∙ sym c.requires.shape.count
 
-pub returns-in_err-mark-2-clause-sound : goal.returns-in_err-mark-2-clause-sound
-returns-in_err-mark-2-clause-sound g c = c.mark-2.ensures.sound
-
 pub returns-in_err-mark-2-clause-count : goal.returns-in_err-mark-2-clause-count
 returns-in_err-mark-2-clause-count g c = c.mark-2.ensures.shape.count ∙ sym c.requires.shape.count
-
-pub returns-in_err-unmark-clause-sound : goal.returns-in_err-unmark-clause-sound
-returns-in_err-unmark-clause-sound g c = c.unmark.ensures.sound
 
 pub returns-in_err-unmark-clause-count : goal.returns-in_err-unmark-clause-count
 returns-in_err-unmark-clause-count g c = c.unmark.ensures.shape.count ∙ sym c.requires.shape.count
 
-pub returns-in_err-commit-clause-sound : goal.returns-in_err-commit-clause-sound
-returns-in_err-commit-clause-sound g c = c.commit.ensures.sound
-
 pub returns-in_err-commit-clause-count : goal.returns-in_err-commit-clause-count
 returns-in_err-commit-clause-count g c = c.commit.ensures.looks.count ∙ (c.unmark.ensures.shape.count ∙ sym c.requires.shape.count)
-
-pub returns-clause-sound : goal.returns-clause-sound
-returns-clause-sound g c = c.commit.ensures.sound
 
 pub returns-clause-count : goal.returns-clause-count
 returns-clause-count g c = c.commit.ensures.looks.count ∙ (c.unmark.ensures.shape.count ∙ sym c.requires.shape.count)
 
 pub mark-requires-clause-shape : goal.mark-requires-clause-shape
 mark-requires-clause-shape g c = still_unnamed _ _ _ _ (shape_dropped _ _ _ c.requires.shape c.begin.ensures.looks.count c.begin.ensures.drops) c.touch.ensures.looks.count c.touch.ensures.caches
-
-pub mark-requires-2-clause-shape : goal.mark-requires-2-clause-shape
-mark-requires-2-clause-shape g c = c.mark.ensures.shape
-
-pub unmark-requires-clause-shape : goal.unmark-requires-clause-shape
-unmark-requires-clause-shape g c = c.mark-2.ensures.shape
-
-pub begin-requires-clause-sound : goal.begin-requires-clause-sound
-begin-requires-clause-sound g c = c.requires.sound
-
-pub touch-requires-clause-sound : goal.touch-requires-clause-sound
-touch-requires-clause-sound g c = c.begin.ensures.sound
-
-pub mark-requires-clause-sound : goal.mark-requires-clause-sound
-mark-requires-clause-sound g c = c.touch.ensures.sound
-
-pub mark-requires-2-clause-sound : goal.mark-requires-2-clause-sound
-mark-requires-2-clause-sound g c = c.mark.ensures.sound
-
-pub unmark-requires-clause-sound : goal.unmark-requires-clause-sound
-unmark-requires-clause-sound g c = c.mark-2.ensures.sound
-
-pub commit-requires-clause-sound : goal.commit-requires-clause-sound
-commit-requires-clause-sound g c = c.unmark.ensures.sound
-
-pub touch-requires-clause-in_update : goal.touch-requires-clause-in_update
-touch-requires-clause-in_update g c = c.in_ok-begin.ensures.ok.updating
 
 pub touch-requires-clause-room : goal.touch-requires-clause-room
 touch-requires-clause-room g c = inr (let none = c.in_ok-begin.ensures.ok.touches in omega (arith, none))
@@ -87,6 +36,3 @@ mark-requires-2-clause-touched g c = stays_touched (g.V.Volume.kept c.touch.new.
 
 pub unmark-requires-clause-touched : goal.unmark-requires-clause-touched
 unmark-requires-clause-touched g c = stays_touched (g.V.Volume.kept c.mark.new.v) (g.V.Volume.kept c.mark-2.new.v) _ c.in_ok-mark-2.ensures.marks.update (stays_touched (g.V.Volume.kept c.touch.new.self) (g.V.Volume.kept c.mark.new.v) _ c.in_ok-mark.ensures.marks.update (has_touched (g.V.Volume.kept c.begin.new.self) (g.V.Volume.kept c.touch.new.self) _ _ c.in_ok-touch.ensures.ok.touched c.bitmap_block.ensures))
-
-pub commit-requires-clause-in_update : goal.commit-requires-clause-in_update
-commit-requires-clause-in_update g c = c.unmark.ensures.marks.in_update

@@ -51,12 +51,6 @@ returns-in-Err-clause-closed g c = ap (λ (x : Contents). x.open_page) c.in-Err.
 
 -- ---- what is asked
 
-pub look-requires-clause-layout : goal.look-requires-clause-layout
-look-requires-clause-layout g c = c.requires.layout
-
-pub look-requires-clause-closed : goal.look-requires-clause-closed
-look-requires-clause-closed g c = c.requires.closed
-
 pub boot_looked-requires-clause-image : goal.boot_looked-requires-clause-image
 boot_looked-requires-clause-image g c = image_viewed (g.M.Machine.contents c.args.machine) (g.M.Machine.contents c.in-Ok.machine) (g.M.Machine.run c.args.machine) (g.M.Machine.run c.in-Ok.machine) c.in-Ok.examined.census c.in-Ok.ensures.untouched c.requires.header c.requires.layout c.in-Ok.ensures.examined
 
@@ -70,18 +64,6 @@ pub boot_looked-requires-clause-regions : goal.boot_looked-requires-clause-regio
 boot_looked-requires-clause-regions g c = subst (λ (x : Contents). ino_numbers c.in-Ok.examined.regions.items ≡ region_inos c.in-Ok.examined.census.shape (stands x)) (sym c.in-Ok.ensures.untouched.rest) c.in-Ok.ensures.regions
 
 -- ---- what is left
-
-pub returns-in-Ok-clause-shut : goal.returns-in-Ok-clause-shut
-returns-in-Ok-clause-shut g c = c.boot_looked.ensures.shut
-
-pub returns-in-Ok-clause-running : goal.returns-in-Ok-clause-running
-returns-in-Ok-clause-running g c = c.boot_looked.ensures.running
-
-pub returns-in-Ok-clause-sound : goal.returns-in-Ok-clause-sound
-returns-in-Ok-clause-sound g c = c.boot_looked.ensures.sound
-
-pub returns-in-Ok-clause-closed : goal.returns-in-Ok-clause-closed
-returns-in-Ok-clause-closed g c = c.boot_looked.ensures.closed
 
 pub returns-in-Ok-clause-standing : goal.returns-in-Ok-clause-standing
 returns-in-Ok-clause-standing g c = λ s h. c.boot_looked.ensures.no_rule

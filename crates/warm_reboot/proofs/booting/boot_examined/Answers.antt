@@ -79,6 +79,3 @@ returns-clause-cut g c =
       c.from-in-Err.ensures,
       cut_by (g.M.Machine.contents c.args.machine) (g.M.Machine.contents c.in-Err.machine) (g.M.Machine.run c.args.machine) (g.M.Machine.run c.in-Err.machine) c.in-Err.fail c.in-Err.ensures.ends.cause c.in-Err.ensures.ends.ends.told c.in-Err.ensures.ends.ends.runs (c.in-Err.ensures.survives (marked_found (g.M.Machine.contents c.args.machine) (length (g.M.Machine.run c.args.machine).scratch) c.args.examined.now.census c.deref.result.now (g.met.M.Machine.whole_blocks c.args.machine) c.requires.examined marks)),
     )
-
-pub returns-clause-runs : goal.returns-clause-runs
-returns-clause-runs g c = c.in-Err.ensures.runs

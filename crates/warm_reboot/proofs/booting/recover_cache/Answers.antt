@@ -5,20 +5,6 @@ use Rattle.warm_reboot.specs.Boots.{IsCutOff}
 use Rattle.warm_reboot.proofs.Survivals.{cut_by_ends, disk_by_home, err_ends, gate_is_shut, ok_is, pending_by_home, ran_on, survives_ready}
 use Rattle.warm_reboot.proofs.booting.recover_cache.Goals as goal
 
--- ---- what is asked
-
-pub recover_volume-cache-requires-clause-sound : goal.recover_volume-cache-requires-clause-sound
-recover_volume-cache-requires-clause-sound g c = c.requires.sound
-
-pub recover_volume-cache-requires-clause-ready : goal.recover_volume-cache-requires-clause-ready
-recover_volume-cache-requires-clause-ready g c = c.requires.ready
-
-pub recover_volume-cache-requires-clause-reads : goal.recover_volume-cache-requires-clause-reads
-recover_volume-cache-requires-clause-reads g c = c.requires.reads
-
-pub recover_volume-cache-requires-clause-regions : goal.recover_volume-cache-requires-clause-regions
-recover_volume-cache-requires-clause-regions g c = c.requires.regions
-
 -- ---- after Ok
 
 pub returns-in-Ok-clause-recovers : goal.returns-in-Ok-clause-recovers
@@ -35,12 +21,6 @@ returns-in-Ok-clause-running g c = ran_on (cache_health (g.M.Machine.contents c.
 
 pub returns-in-Ok-clause-shut : goal.returns-in-Ok-clause-shut
 returns-in-Ok-clause-shut g c = gate_is_shut (g.M.Machine.contents c.recover_volume-cache.result.0.machine) (length (g.M.Machine.run c.recover_volume-cache.result.0.machine).scratch) c.recover_volume-cache.result.0.tables c.recover_volume-cache.ensures.sound c.recover_volume-cache.ensures.ready.idle
-
-pub returns-in-Ok-clause-sound : goal.returns-in-Ok-clause-sound
-returns-in-Ok-clause-sound g c = c.recover_volume-cache.ensures.sound
-
-pub returns-in-Ok-clause-runs : goal.returns-in-Ok-clause-runs
-returns-in-Ok-clause-runs g c = c.recover_volume-cache.ensures.goes.runs
 
 -- ---- after a failure
 

@@ -9,12 +9,6 @@ use Rattle.warm_reboot.specs.Examining.{IsExamined, Unexamined}
 use Rattle.warm_reboot.proofs.Survivals.{by_two}
 use Rattle.warm_reboot.proofs.examining.look.Goals as goal
 
-pub new-requires-clause-closed : goal.new-requires-clause-closed
-new-requires-clause-closed g c = c.requires.closed
-
-pub new-requires-clause-layout : goal.new-requires-clause-layout
-new-requires-clause-layout g c = c.requires.layout
-
 pub look_at_pair-found-requires : goal.look_at_pair-found-requires
 look_at_pair-found-requires g c = record { sound = c.in-Ok.ensures.sound }
 

@@ -50,20 +50,11 @@ returns-in_err-marks-clause-viewed g c = viewed_trans _ _ _ _ _ _ (viewed_trans 
 
 -- ---- what is asked of the calls
 
-pub look_at_volume-requires-clause-sound : goal.look_at_volume-requires-clause-sound
-look_at_volume-requires-clause-sound g c = c.requires.sound
-
 pub look_at_volume-requires-clause-bare : goal.look_at_volume-requires-clause-bare
 look_at_volume-requires-clause-bare g c = λ y b viewed. refl
 
-pub least_misfit-requires-clause-sound : goal.least_misfit-requires-clause-sound
-least_misfit-requires-clause-sound g c = c.look_at_volume.ensures.sound
-
 pub least_misfit-requires-clause-owned : goal.least_misfit-requires-clause-owned
 least_misfit-requires-clause-owned g c = owners_read (g.M.Machine.contents c.args.view.now.machine) (g.M.Machine.contents c.look_at_volume.new.v.machine) c.in_ok-census.census c.in_ok-census.owners.items c.deref.result.now c.in_ok-census.ensures.ok c.in_ok-census.ensures.passes.rest c.deref.ensures.value c.in_ok-census.ensures.owners
-
-pub list_regions-requires-clause-sound : goal.list_regions-requires-clause-sound
-list_regions-requires-clause-sound g c = c.least_misfit.ensures.sound
 
 pub mark_stale-requires-clause-layout : goal.mark_stale-requires-clause-layout
 mark_stale-requires-clause-layout g c = subst (λ m. HasLayout (g.M.Machine.contents m).words (g.M.Machine.run m).scratch) (sym c.machine.ensures) c.list_regions.ensures.sound.layout
@@ -156,22 +147,5 @@ returns-in_err-marks-clause-unexamined g c =
     let p = err_from_is_err_and c.from_residual-in_err-marks.result c.from_residual-in_err-marks.ensures.1 in
     fails_so (g.M.Machine.contents c.args.view.now.machine) (g.M.Machine.contents c.list_regions.new.v.machine) (g.M.Machine.run c.list_regions.new.v.machine) c.from_residual-in_err-marks.result p.0 _ p.1 p.2 tt
 
-pub returns-in_err-census-clause-viewed : goal.returns-in_err-census-clause-viewed
-returns-in_err-census-clause-viewed g c = c.look_at_volume.ensures.passes
-
 pub returns-in_err-block-clause-viewed : goal.returns-in_err-block-clause-viewed
 returns-in_err-block-clause-viewed g c = viewed_trans _ _ _ _ _ _ c.in_ok-census.ensures.passes c.least_misfit.ensures.viewed
-
--- ---- nothing is made, and nothing fails
-
-pub returns-in-Some-clause-examined : goal.returns-in-Some-clause-examined
-returns-in-Some-clause-examined g c = tt
-
-pub returns-in-Some-clause-marks : goal.returns-in-Some-clause-marks
-returns-in-Some-clause-marks g c = tt
-
-pub returns-in-Some-clause-regions : goal.returns-in-Some-clause-regions
-returns-in-Some-clause-regions g c = tt
-
-pub returns-clause-unexamined : goal.returns-clause-unexamined
-returns-clause-unexamined g c = tt

@@ -28,9 +28,6 @@ returns-in_ok-inode-in-PageOf-clause-value g c = λ words k entry.
 pub returns-then-block-shape-clause-looks : goal.returns-then-block-shape-clause-looks
 returns-then-block-shape-clause-looks g c = looks_refl _
 
-pub returns-then-block-shape-clause-shape : goal.returns-then-block-shape-clause-shape
-returns-then-block-shape-clause-shape g c = c.requires.shape
-
 pub returns-then-block-shape-clause-caches : goal.returns-then-block-shape-clause-caches
 returns-then-block-shape-clause-caches g c = caches_by_refl _ _
 
@@ -40,14 +37,8 @@ returns-then-block-shape-clause-passes g c = g.met.V.Blocks.passes_refl c.args.v
 pub returns-then-block-shape-clause-ends : goal.returns-then-block-shape-clause-ends
 returns-then-block-shape-clause-ends g c = ends_still _ _
 
-pub returns-then-block-shape-clause-sound : goal.returns-then-block-shape-clause-sound
-returns-then-block-shape-clause-sound g c = c.requires.sound
-
 pub returns-in-Nobody-clause-looks : goal.returns-in-Nobody-clause-looks
 returns-in-Nobody-clause-looks g c = looks_refl _
-
-pub returns-in-Nobody-clause-shape : goal.returns-in-Nobody-clause-shape
-returns-in-Nobody-clause-shape g c = c.requires.shape
 
 pub returns-in-Nobody-clause-caches : goal.returns-in-Nobody-clause-caches
 returns-in-Nobody-clause-caches g c = caches_by_refl _ _
@@ -58,14 +49,8 @@ returns-in-Nobody-clause-passes g c = g.met.V.Blocks.passes_refl c.args.v.now
 pub returns-in-Nobody-clause-ends : goal.returns-in-Nobody-clause-ends
 returns-in-Nobody-clause-ends g c = ends_still _ _
 
-pub returns-in-Nobody-clause-sound : goal.returns-in-Nobody-clause-sound
-returns-in-Nobody-clause-sound g c = c.requires.sound
-
 pub returns-in-TableOf-clause-looks : goal.returns-in-TableOf-clause-looks
 returns-in-TableOf-clause-looks g c = looks_refl _
-
-pub returns-in-TableOf-clause-shape : goal.returns-in-TableOf-clause-shape
-returns-in-TableOf-clause-shape g c = c.requires.shape
 
 pub returns-in-TableOf-clause-caches : goal.returns-in-TableOf-clause-caches
 returns-in-TableOf-clause-caches g c = caches_by_refl _ _
@@ -76,40 +61,7 @@ returns-in-TableOf-clause-passes g c = g.met.V.Blocks.passes_refl c.args.v.now
 pub returns-in-TableOf-clause-ends : goal.returns-in-TableOf-clause-ends
 returns-in-TableOf-clause-ends g c = ends_still _ _
 
-pub returns-in-TableOf-clause-sound : goal.returns-in-TableOf-clause-sound
-returns-in-TableOf-clause-sound g c = c.requires.sound
-
 -- ---- where an inode is
-
-pub read_inode-requires-clause-sound : goal.read_inode-requires-clause-sound
-read_inode-requires-clause-sound g c = c.requires.sound
-
-pub read_inode-requires-clause-shape : goal.read_inode-requires-clause-shape
-read_inode-requires-clause-shape g c = c.requires.shape
-
-pub returns-in_err-inode-in-PageOf-clause-looks : goal.returns-in_err-inode-in-PageOf-clause-looks
-returns-in_err-inode-in-PageOf-clause-looks g c = c.read_inode.ensures.looks
-
-pub returns-in_err-inode-in-PageOf-clause-shape : goal.returns-in_err-inode-in-PageOf-clause-shape
-returns-in_err-inode-in-PageOf-clause-shape g c = c.read_inode.ensures.shape
-
-pub returns-in_err-inode-in-PageOf-clause-passes : goal.returns-in_err-inode-in-PageOf-clause-passes
-returns-in_err-inode-in-PageOf-clause-passes g c = c.read_inode.ensures.passes
-
-pub returns-in_err-inode-in-PageOf-clause-sound : goal.returns-in_err-inode-in-PageOf-clause-sound
-returns-in_err-inode-in-PageOf-clause-sound g c = c.read_inode.ensures.sound
-
-pub returns-in_ok-inode-in-PageOf-clause-looks : goal.returns-in_ok-inode-in-PageOf-clause-looks
-returns-in_ok-inode-in-PageOf-clause-looks g c = c.read_inode.ensures.looks
-
-pub returns-in_ok-inode-in-PageOf-clause-shape : goal.returns-in_ok-inode-in-PageOf-clause-shape
-returns-in_ok-inode-in-PageOf-clause-shape g c = c.read_inode.ensures.shape
-
-pub returns-in_ok-inode-in-PageOf-clause-passes : goal.returns-in_ok-inode-in-PageOf-clause-passes
-returns-in_ok-inode-in-PageOf-clause-passes g c = c.read_inode.ensures.passes
-
-pub returns-in_ok-inode-in-PageOf-clause-sound : goal.returns-in_ok-inode-in-PageOf-clause-sound
-returns-in_ok-inode-in-PageOf-clause-sound g c = c.read_inode.ensures.sound
 
 pub returns-in_ok-inode-in-PageOf-clause-ends : goal.returns-in_ok-inode-in-PageOf-clause-ends
 returns-in_ok-inode-in-PageOf-clause-ends g c = ends_other _ _ _ _ c.in_ok-inode-in-PageOf.ensures.ends

@@ -8,9 +8,6 @@ loop-k-preserved g c = marks_next c.args.owners.now (g.M.Machine.contents c.args
 pub returns : goal.returns
 returns g c = marks_all c.args.owners.now (g.M.Machine.contents c.args.m.now).words c.loop-k.k c.loop-k.marks.items (omega (arith, c.loop-k.auto.k-end, c.loop-k-test.false, c.frame_count-frames.ensures)) c.loop-k.invariant
 
-pub is_stale-requires-clause-layout : goal.is_stale-requires-clause-layout
-is_stale-requires-clause-layout g c = c.requires.layout
-
 pub is_stale-requires-clause-entry : goal.is_stale-requires-clause-entry
 is_stale-requires-clause-entry g c = subst (λ f. c.loop-k.k < f) c.frame_count-frames.ensures c.loop-k-test.true
 

@@ -20,23 +20,11 @@ pub returns-clause-misfit : goal.returns-clause-misfit
 returns-clause-misfit g c = least_all (volume_layout c.args.shape.now (stands (g.M.Machine.contents c.args.view.now.machine))) (g.M.Machine.contents c.args.view.now.machine).words c.loop-k.k c.loop-k.least
     (subst (λ (n : ℕ). n ≤ c.loop-k.k) (c.frame_count-frames.ensures ∙ ap (λ m. frames_of (g.M.Machine.contents m).words) c.machine.ensures) c.loop-k-test.false) c.loop-k.invariant.least
 
-pub misfit_of-requires-clause-sound : goal.misfit_of-requires-clause-sound
-misfit_of-requires-clause-sound g c = c.loop-k.invariant.sound
-
 pub misfit_of-requires-clause-owned : goal.misfit_of-requires-clause-owned
 misfit_of-requires-clause-owned g c = owned_kept (g.M.Machine.contents c.args.view.now.machine) (g.M.Machine.contents c.loop-k.view.machine) _ _ c.loop-k.invariant.viewed.rest c.requires.owned
 
 pub returns-in_err-misfit-clause-viewed : goal.returns-in_err-misfit-clause-viewed
 returns-in_err-misfit-clause-viewed g c = viewed_trans _ _ _ _ _ _ c.loop-k.invariant.viewed c.misfit_of.ensures.viewed
-
-pub returns-in_err-misfit-clause-sound : goal.returns-in_err-misfit-clause-sound
-returns-in_err-misfit-clause-sound g c = c.misfit_of.ensures.sound
-
-pub returns-clause-viewed : goal.returns-clause-viewed
-returns-clause-viewed g c = c.loop-k.invariant.viewed
-
-pub returns-clause-sound : goal.returns-clause-sound
-returns-clause-sound g c = c.loop-k.invariant.sound
 
 pub returns-clause-ends : goal.returns-clause-ends
 returns-clause-ends g c = ends_viewed _ _ _ _ _ c.loop-k.invariant.viewed

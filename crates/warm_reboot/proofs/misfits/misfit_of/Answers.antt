@@ -6,47 +6,14 @@ use Rattle.warm_reboot.proofs.Examines.{none_made}
 use Rattle.warm_reboot.proofs.Looking.{ends_failed, ends_other, ends_still, shape_known}
 use Rattle.warm_reboot.proofs.misfits.misfit_of.Goals as goal
 
-pub entry_fits-requires-clause-sound : goal.entry_fits-requires-clause-sound
-entry_fits-requires-clause-sound g c = c.requires.sound
-
 pub entry_fits-requires-clause-shape : goal.entry_fits-requires-clause-shape
 entry_fits-requires-clause-shape g c = shape_known (g.M.Machine.contents c.args.view.now.machine) (g.M.Machine.run c.args.view.now.machine) _ _ c.requires.owned
-
-pub entry_fits-requires-clause-served : goal.entry_fits-requires-clause-served
-entry_fits-requires-clause-served g c = c.requires.owned.served
-
-pub entry_fits-requires-clause-laid : goal.entry_fits-requires-clause-laid
-entry_fits-requires-clause-laid g c = c.requires.owned.laid
-
-pub entry_fits-requires-clause-owners : goal.entry_fits-requires-clause-owners
-entry_fits-requires-clause-owners g c = c.requires.owned.has
 
 pub returns-then-not-is_valid-clause-viewed : goal.returns-then-not-is_valid-clause-viewed
 returns-then-not-is_valid-clause-viewed g c = viewed_refl _ _
 
 pub returns-then-not-is_valid-clause-ends : goal.returns-then-not-is_valid-clause-ends
 returns-then-not-is_valid-clause-ends g c = ends_still _ _
-
-pub returns-then-not-is_valid-clause-sound : goal.returns-then-not-is_valid-clause-sound
-returns-then-not-is_valid-clause-sound g c = c.requires.sound
-
-pub returns-in_err-fits-clause-viewed : goal.returns-in_err-fits-clause-viewed
-returns-in_err-fits-clause-viewed g c = c.entry_fits.ensures.passes
-
-pub returns-in_err-fits-clause-sound : goal.returns-in_err-fits-clause-sound
-returns-in_err-fits-clause-sound g c = c.entry_fits.ensures.sound
-
-pub returns-then-fits-clause-viewed : goal.returns-then-fits-clause-viewed
-returns-then-fits-clause-viewed g c = c.entry_fits.ensures.passes
-
-pub returns-then-fits-clause-sound : goal.returns-then-fits-clause-sound
-returns-then-fits-clause-sound g c = c.entry_fits.ensures.sound
-
-pub returns-clause-viewed : goal.returns-clause-viewed
-returns-clause-viewed g c = c.entry_fits.ensures.passes
-
-pub returns-clause-sound : goal.returns-clause-sound
-returns-clause-sound g c = c.entry_fits.ensures.sound
 
 pub returns-in_err-fits-clause-misfit : goal.returns-in_err-fits-clause-misfit
 returns-in_err-fits-clause-misfit g c =

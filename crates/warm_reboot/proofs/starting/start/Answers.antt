@@ -17,9 +17,6 @@ use Rattle.warm_reboot.proofs.starting.start.Goals as goal
 pub start-requires-clause-coherent : goal.start-requires-clause-coherent
 start-requires-clause-coherent g c = coherent_empty _ _ (image_next (stale_block c.args.marks.now (g.M.Machine.contents c.args.machine).words) _ _ _ _ _ _ c.requires.image c.restore.ensures.endures c.restore.ensures.ends) c.in-Ok.ensures.empty
 
-pub start-requires-clause-closed : goal.start-requires-clause-closed
-start-requires-clause-closed g c = c.restore.ensures.ends.closed
-
 pub start-requires-clause-tables : goal.start-requires-clause-tables
 start-requires-clause-tables g c =
     let image = image_next (stale_block c.args.marks.now (g.M.Machine.contents c.args.machine).words) _ _ _ _ _ _ c.requires.image c.restore.ensures.endures c.restore.ensures.ends in
@@ -62,30 +59,7 @@ returns-in-Err-clause-survives g c = λ are. survives_kept c.args.marks.now _ _ 
 pub returns-in-Err-clause-runs : goal.returns-in-Err-clause-runs
 returns-in-Err-clause-runs g c = runs_on (stale_block c.args.marks.now (g.M.Machine.contents c.args.machine).words) _ _ _ _ _ _ c.requires.image c.restore.ensures.endures c.restore.ensures.ends
 
--- ---- what is asked first
-
-pub restore-requires-clause-image : goal.restore-requires-clause-image
-restore-requires-clause-image g c = c.requires.image
-
-pub restore-requires-clause-closed : goal.restore-requires-clause-closed
-restore-requires-clause-closed g c = c.requires.closed
-
-pub restore-requires-clause-room : goal.restore-requires-clause-room
-restore-requires-clause-room g c = c.requires.room
-
-pub restore-requires-clause-marks : goal.restore-requires-clause-marks
-restore-requires-clause-marks g c = c.requires.marks
-
-pub restore-requires-clause-of_data : goal.restore-requires-clause-of_data
-restore-requires-clause-of_data g c = c.requires.of_data
-
 -- ---- what the restored machine keeps
-
-pub start-requires-clause-shut : goal.start-requires-clause-shut
-start-requires-clause-shut g c = c.in-Ok.ensures.shut
-
-pub start-requires-clause-empty : goal.start-requires-clause-empty
-start-requires-clause-empty g c = c.in-Ok.ensures.empty
 
 pub returns-in-Ok-clause-shut : goal.returns-in-Ok-clause-shut
 returns-in-Ok-clause-shut g c = subst (λ m. gate_of (g.M.Machine.contents m).words ≡ 0) (sym c.start.ensures.machine) c.in-Ok.ensures.shut
@@ -93,37 +67,7 @@ returns-in-Ok-clause-shut g c = subst (λ m. gate_of (g.M.Machine.contents m).wo
 pub returns-in-Ok-clause-running : goal.returns-in-Ok-clause-running
 returns-in-Ok-clause-running g c = subst (λ m. (g.M.Machine.run m).stopped ≡ false) (sym c.start.ensures.machine) c.in-Ok.ensures.running
 
-pub returns-in-Ok-clause-counts : goal.returns-in-Ok-clause-counts
-returns-in-Ok-clause-counts g c = c.in-Ok.ensures.counts
-
-pub returns-in-Ok-clause-sound : goal.returns-in-Ok-clause-sound
-returns-in-Ok-clause-sound g c = c.start.ensures.sound
-
-pub returns-in-Ok-clause-ends : goal.returns-in-Ok-clause-ends
-returns-in-Ok-clause-ends g c = tt
-
 -- ---- nothing is started
-
-pub returns-in-Err-clause-starts : goal.returns-in-Err-clause-starts
-returns-in-Err-clause-starts g c = tt
-
-pub returns-in-Err-clause-restored : goal.returns-in-Err-clause-restored
-returns-in-Err-clause-restored g c = tt
-
-pub returns-in-Err-clause-shut : goal.returns-in-Err-clause-shut
-returns-in-Err-clause-shut g c = tt
-
-pub returns-in-Err-clause-synced : goal.returns-in-Err-clause-synced
-returns-in-Err-clause-synced g c = tt
-
-pub returns-in-Err-clause-counts : goal.returns-in-Err-clause-counts
-returns-in-Err-clause-counts g c = tt
-
-pub returns-in-Err-clause-running : goal.returns-in-Err-clause-running
-returns-in-Err-clause-running g c = tt
-
-pub returns-in-Err-clause-sound : goal.returns-in-Err-clause-sound
-returns-in-Err-clause-sound g c = tt
 
 pub returns-in-Err-clause-ends : goal.returns-in-Err-clause-ends
 returns-in-Err-clause-ends g c = phase_failed _ _ _ _ c.in-Err.fail c.in-Err.ensures.ends

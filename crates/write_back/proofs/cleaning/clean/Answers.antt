@@ -47,9 +47,6 @@ returns-then-not-is_dirty-clause-keeps g c = keeps_refl _
 pub returns-then-not-is_dirty-clause-cleaned : goal.returns-then-not-is_dirty-clause-cleaned
 returns-then-not-is_dirty-clause-cleaned g c = record { valid = c.requires.valid; clean = (ap is_dirty (sym c.load_tag.ensures) ∙ sym c.is_dirty.ensures ∙ c.if-not-is_dirty.true); block = refl; shadow = refl }
 
-pub returns-then-not-is_dirty-clause-same : goal.returns-then-not-is_dirty-clause-same
-returns-then-not-is_dirty-clause-same g c = tt
-
 pub returns-then-not-is_dirty-clause-held : goal.returns-then-not-is_dirty-clause-held
 returns-then-not-is_dirty-clause-held g c = held_same c.args.k _ _ refl
 
@@ -65,9 +62,6 @@ returns-then-not-is_dirty-clause-clean_entry g c = λ e. record { disk = refl; p
 pub returns-then-not-is_dirty-clause-one_write : goal.returns-then-not-is_dirty-clause-one_write
 returns-then-not-is_dirty-clause-one_write g c = one_more _
 
-pub returns-then-not-is_dirty-clause-closed : goal.returns-then-not-is_dirty-clause-closed
-returns-then-not-is_dirty-clause-closed g c = c.requires.closed
-
 pub returns-then-not-is_dirty-clause-lasts : goal.returns-then-not-is_dirty-clause-lasts
 returns-then-not-is_dirty-clause-lasts g c = lasts_refl _
 
@@ -77,23 +71,8 @@ returns-then-not-is_dirty-clause-fault g c = λ e. absurd (never _ Fault e)
 pub returns-then-not-is_dirty-clause-ends : goal.returns-then-not-is_dirty-clause-ends
 returns-then-not-is_dirty-clause-ends g c = ends_none _ _ (never _ Stopped)
 
-pub write_entry-requires-clause-coherent : goal.write_entry-requires-clause-coherent
-write_entry-requires-clause-coherent g c = c.requires.coherent
-
-pub write_entry-requires-clause-closed : goal.write_entry-requires-clause-closed
-write_entry-requires-clause-closed g c = c.requires.closed
-
-pub write_entry-requires-clause-valid : goal.write_entry-requires-clause-valid
-write_entry-requires-clause-valid g c = c.requires.valid
-
 pub write_entry-requires-clause-dirty : goal.write_entry-requires-clause-dirty
 write_entry-requires-clause-dirty g c = (ap is_dirty (sym c.load_tag.ensures) ∙ sym c.is_dirty.ensures ∙ c.if-not-is_dirty.false)
-
-pub write_entry-requires-clause-page : goal.write_entry-requires-clause-page
-write_entry-requires-clause-page g c = c.frame_page_of-page.ensures.page
-
-pub returns-in_err-write_entry-clause-keeps : goal.returns-in_err-write_entry-clause-keeps
-returns-in_err-write_entry-clause-keeps g c = c.write_entry.ensures.keeps
 
 pub returns-in_err-write_entry-clause-cleaned : goal.returns-in_err-write_entry-clause-cleaned
 returns-in_err-write_entry-clause-cleaned g c = not_ok _ c.from_residual.result c.from_residual.ensures.0
@@ -112,15 +91,6 @@ returns-in_err-write_entry-clause-narrows g c = narrows_same _ _ c.requires.cohe
 
 pub returns-in_err-write_entry-clause-clean_entry : goal.returns-in_err-write_entry-clause-clean_entry
 returns-in_err-write_entry-clause-clean_entry g c = λ clean. absurd (true_false (sym (ap is_dirty (sym c.load_tag.ensures) ∙ sym c.is_dirty.ensures ∙ c.if-not-is_dirty.false) ∙ clean))
-
-pub returns-in_err-write_entry-clause-one_write : goal.returns-in_err-write_entry-clause-one_write
-returns-in_err-write_entry-clause-one_write g c = c.write_entry.ensures.one_write
-
-pub returns-in_err-write_entry-clause-closed : goal.returns-in_err-write_entry-clause-closed
-returns-in_err-write_entry-clause-closed g c = c.write_entry.ensures.closed
-
-pub returns-in_err-write_entry-clause-lasts : goal.returns-in_err-write_entry-clause-lasts
-returns-in_err-write_entry-clause-lasts g c = c.write_entry.ensures.lasts
 
 pub returns-in_err-write_entry-clause-fault : goal.returns-in_err-write_entry-clause-fault
 returns-in_err-write_entry-clause-fault g c = let p = err_from_is_err_and c.from_residual.result c.from_residual.ensures.1 in fault_told _ _ _ (p.1 ∙ ap Err p.2) c.in_err-write_entry.ensures.fault
@@ -152,9 +122,6 @@ returns-in_err-sync_disk-clause-clean_entry g c = λ clean. absurd (true_false (
 pub returns-in_err-sync_disk-clause-one_write : goal.returns-in_err-sync_disk-clause-one_write
 returns-in_err-sync_disk-clause-one_write g c = few_on _ _ _ c.sync_disk.ensures.writes c.write_entry.ensures.one_write
 
-pub returns-in_err-sync_disk-clause-closed : goal.returns-in_err-sync_disk-clause-closed
-returns-in_err-sync_disk-clause-closed g c = c.sync_disk.ensures.closed
-
 pub returns-in_err-sync_disk-clause-lasts : goal.returns-in_err-sync_disk-clause-lasts
 returns-in_err-sync_disk-clause-lasts g c = lasts_trans _ _ _ c.write_entry.ensures.lasts c.sync_disk.ensures.lasts
 
@@ -185,9 +152,6 @@ returns-in_err-mark_clean-clause-clean_entry g c = λ clean. absurd (true_false 
 pub returns-in_err-mark_clean-clause-one_write : goal.returns-in_err-mark_clean-clause-one_write
 returns-in_err-mark_clean-clause-one_write g c = few_on _ _ _ (writes_rest (g.M.Machine.contents c.sync_disk.new.m) _ c.mark_clean.ensures.rest ∙ c.sync_disk.ensures.writes) c.write_entry.ensures.one_write
 
-pub returns-in_err-mark_clean-clause-closed : goal.returns-in_err-mark_clean-clause-closed
-returns-in_err-mark_clean-clause-closed g c = c.mark_clean.ensures.closed
-
 pub returns-in_err-mark_clean-clause-fault : goal.returns-in_err-mark_clean-clause-fault
 returns-in_err-mark_clean-clause-fault g c = let p = err_from_is_err_and c.from_residual-in_err-mark_clean.result c.from_residual-in_err-mark_clean.ensures.1 in λ e. absurd (not_fault _ (p.1 ∙ ap Err p.2) e)
 
@@ -196,9 +160,6 @@ returns-clause-keeps g c = keeps_then _ _ _ (keeps_then _ _ _ c.write_entry.ensu
 
 pub returns-clause-cleaned : goal.returns-clause-cleaned
 returns-clause-cleaned g c = cleaned_from c.args.k _ _ _ (c.sync_disk.ensures.words ∙ c.write_entry.ensures.words) c.in_ok-mark_clean.ensures.cleaned
-
-pub returns-clause-same : goal.returns-clause-same
-returns-clause-same g c = tt
 
 pub returns-clause-held : goal.returns-clause-held
 returns-clause-held g c = held_from c.args.k _ _ _ (c.sync_disk.ensures.words ∙ c.write_entry.ensures.words) c.mark_clean.ensures.held
@@ -212,26 +173,14 @@ returns-clause-clean_entry g c = λ clean. absurd (true_false (sym (ap is_dirty 
 pub returns-clause-one_write : goal.returns-clause-one_write
 returns-clause-one_write g c = few_on _ _ _ (writes_rest (g.M.Machine.contents c.sync_disk.new.m) _ c.mark_clean.ensures.rest ∙ c.sync_disk.ensures.writes) c.write_entry.ensures.one_write
 
-pub returns-clause-closed : goal.returns-clause-closed
-returns-clause-closed g c = c.mark_clean.ensures.closed
-
 pub returns-clause-fault : goal.returns-clause-fault
 returns-clause-fault g c = λ e. absurd (never _ Fault e)
 
 pub load_tag-requires-clause-layout : goal.load_tag-requires-clause-layout
 load_tag-requires-clause-layout g c = layout_now _ _ c.requires.coherent
 
-pub load_tag-requires-clause-entry : goal.load_tag-requires-clause-entry
-load_tag-requires-clause-entry g c = c.requires.valid.within
-
 pub frame_page_of-page-requires-clause-layout : goal.frame_page_of-page-requires-clause-layout
 frame_page_of-page-requires-clause-layout g c = layout_now _ _ c.requires.coherent
-
-pub frame_page_of-page-requires-clause-entry : goal.frame_page_of-page-requires-clause-entry
-frame_page_of-page-requires-clause-entry g c = c.requires.valid.within
-
-pub mark_clean-requires-clause-closed : goal.mark_clean-requires-clause-closed
-mark_clean-requires-clause-closed g c = c.sync_disk.ensures.closed
 
 pub mark_clean-requires-clause-valid : goal.mark_clean-requires-clause-valid
 mark_clean-requires-clause-valid g c = subst (λ ws. IsValid ws c.args.k) (sym (c.sync_disk.ensures.words ∙ c.write_entry.ensures.words)) c.requires.valid

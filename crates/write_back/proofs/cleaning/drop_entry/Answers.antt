@@ -11,36 +11,6 @@ use Rattle.write_back.proofs.cleaning.drop_entry.Goals as goal
 pub returns-clause-keeps : goal.returns-clause-keeps
 returns-clause-keeps g c = keeps_clear _ c.args.k _ _ c.requires.coherent (c.in_ok-clear.ensures.changes.rest) c.requires.valid c.requires.clean (retagged c.args.k 0 _ _ c.in_ok-clear.ensures.changes.one_entry c.in_ok-clear.ensures.entry)
 
-pub returns-clause-rest : goal.returns-clause-rest
-returns-clause-rest g c = c.clear.ensures.changes.rest
-
-pub returns-clause-one_entry : goal.returns-clause-one_entry
-returns-clause-one_entry g c = c.clear.ensures.changes.one_entry
-
-pub returns-clause-closed : goal.returns-clause-closed
-returns-clause-closed g c = c.clear.ensures.changes.closed
-
-pub returns-clause-lasts : goal.returns-clause-lasts
-returns-clause-lasts g c = c.clear.ensures.changes.lasts
-
-pub returns-in_err-clear-clause-rest : goal.returns-in_err-clear-clause-rest
-returns-in_err-clear-clause-rest g c = c.clear.ensures.changes.rest
-
-pub returns-in_err-clear-clause-one_entry : goal.returns-in_err-clear-clause-one_entry
-returns-in_err-clear-clause-one_entry g c = c.clear.ensures.changes.one_entry
-
-pub returns-in_err-clear-clause-closed : goal.returns-in_err-clear-clause-closed
-returns-in_err-clear-clause-closed g c = c.clear.ensures.changes.closed
-
-pub returns-in_err-clear-clause-lasts : goal.returns-in_err-clear-clause-lasts
-returns-in_err-clear-clause-lasts g c = c.clear.ensures.changes.lasts
-
-pub returns-clause-same : goal.returns-clause-same
-returns-clause-same g c = tt
-
-pub returns-clause-ends : goal.returns-clause-ends
-returns-clause-ends g c = c.in_ok-clear.ensures.changes.ends
-
 pub returns-in_err-clear-clause-keeps : goal.returns-in_err-clear-clause-keeps
 returns-in_err-clear-clause-keeps g c = subst (λ m. Keeps (g.M.Machine.contents c.args.m.now) m) (sym c.in_err-clear.ensures.same) (keeps_refl (g.M.Machine.contents c.args.m.now))
 
@@ -52,9 +22,6 @@ returns-in_err-clear-clause-ends g c = step_stopped (g.M.Machine.run c.args.m.no
 
 pub returns-in_err-clear-clause-gone : goal.returns-in_err-clear-clause-gone
 returns-in_err-clear-clause-gone g c = not_ok _ c.from_residual.result c.from_residual.ensures.0
-
-pub returns-clause-held : goal.returns-clause-held
-returns-clause-held g c = tt
 
 pub returns-in_err-clear-clause-held : goal.returns-in_err-clear-clause-held
 returns-in_err-clear-clause-held g c = at_err c.from_residual.result c.from_residual.ensures.0 (held_same c.args.k _ _ (ap (λ (m : Contents). m.words) c.in_err-clear.ensures.same))

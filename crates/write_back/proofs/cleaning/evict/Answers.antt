@@ -38,48 +38,6 @@ returns-in_err-drop_entry-clause-marks g c = λ dirty. absurd (true_false (sym d
 pub returns-clause-marks : goal.returns-clause-marks
 returns-clause-marks g c = λ dirty. absurd (true_false (sym dirty ∙ ap is_dirty c.in_ok-drop_entry.ensures.gone))
 
-pub clean-requires-clause-coherent : goal.clean-requires-clause-coherent
-clean-requires-clause-coherent g c = c.requires.coherent
-
-pub clean-requires-clause-closed : goal.clean-requires-clause-closed
-clean-requires-clause-closed g c = c.requires.closed
-
-pub clean-requires-clause-valid : goal.clean-requires-clause-valid
-clean-requires-clause-valid g c = c.requires.valid
-
-pub clean-requires-clause-bare : goal.clean-requires-clause-bare
-clean-requires-clause-bare g c = c.requires.bare
-
-pub drop_entry-requires-clause-closed : goal.drop_entry-requires-clause-closed
-drop_entry-requires-clause-closed g c = c.clean.ensures.closed
-
-pub drop_entry-requires-clause-valid : goal.drop_entry-requires-clause-valid
-drop_entry-requires-clause-valid g c = c.in_ok-clean.ensures.cleaned.valid
-
-pub drop_entry-requires-clause-clean : goal.drop_entry-requires-clause-clean
-drop_entry-requires-clause-clean g c = c.in_ok-clean.ensures.cleaned.clean
-
-pub returns-in_err-clean-clause-keeps : goal.returns-in_err-clean-clause-keeps
-returns-in_err-clean-clause-keeps g c = c.clean.ensures.keeps
-
-pub returns-in_err-clean-clause-one_entry : goal.returns-in_err-clean-clause-one_entry
-returns-in_err-clean-clause-one_entry g c = c.clean.ensures.one_entry
-
-pub returns-in_err-clean-clause-narrows : goal.returns-in_err-clean-clause-narrows
-returns-in_err-clean-clause-narrows g c = c.clean.ensures.narrows
-
-pub returns-in_err-clean-clause-clean_entry : goal.returns-in_err-clean-clause-clean_entry
-returns-in_err-clean-clause-clean_entry g c = c.clean.ensures.clean_entry
-
-pub returns-in_err-clean-clause-one_write : goal.returns-in_err-clean-clause-one_write
-returns-in_err-clean-clause-one_write g c = c.clean.ensures.one_write
-
-pub returns-in_err-clean-clause-closed : goal.returns-in_err-clean-clause-closed
-returns-in_err-clean-clause-closed g c = c.clean.ensures.closed
-
-pub returns-in_err-clean-clause-lasts : goal.returns-in_err-clean-clause-lasts
-returns-in_err-clean-clause-lasts g c = c.clean.ensures.lasts
-
 pub returns-in_err-clean-clause-gone : goal.returns-in_err-clean-clause-gone
 returns-in_err-clean-clause-gone g c = not_ok _ c.from_residual.result c.from_residual.ensures.0
 
@@ -110,9 +68,6 @@ returns-in_err-drop_entry-clause-clean_entry g c = λ clean. disk_on _ _ _ (c.cl
 pub returns-in_err-drop_entry-clause-one_write : goal.returns-in_err-drop_entry-clause-one_write
 returns-in_err-drop_entry-clause-one_write g c = few_on _ _ _ (writes_rest (g.M.Machine.contents c.clean.new.m) _ c.drop_entry.ensures.rest) c.clean.ensures.one_write
 
-pub returns-in_err-drop_entry-clause-closed : goal.returns-in_err-drop_entry-clause-closed
-returns-in_err-drop_entry-clause-closed g c = c.drop_entry.ensures.closed
-
 pub returns-in_err-drop_entry-clause-lasts : goal.returns-in_err-drop_entry-clause-lasts
 returns-in_err-drop_entry-clause-lasts g c = lasts_trans _ _ _ c.clean.ensures.lasts c.drop_entry.ensures.lasts
 
@@ -122,12 +77,6 @@ returns-in_err-drop_entry-clause-fault g c = let p = err_from_is_err_and c.from_
 pub returns-clause-keeps : goal.returns-clause-keeps
 returns-clause-keeps g c = keeps_then _ _ _ c.clean.ensures.keeps c.drop_entry.ensures.keeps
 
-pub returns-clause-gone : goal.returns-clause-gone
-returns-clause-gone g c = c.in_ok-drop_entry.ensures.gone
-
-pub returns-clause-held : goal.returns-clause-held
-returns-clause-held g c = tt
-
 pub returns-clause-one_entry : goal.returns-clause-one_entry
 returns-clause-one_entry g c = one_entry_then c.args.k _ _ _ c.clean.ensures.one_entry c.drop_entry.ensures.one_entry
 
@@ -136,9 +85,6 @@ returns-clause-clean_entry g c = λ clean. disk_on _ _ _ (c.clean.ensures.clean_
 
 pub returns-clause-one_write : goal.returns-clause-one_write
 returns-clause-one_write g c = few_on _ _ _ (writes_rest (g.M.Machine.contents c.clean.new.m) _ c.drop_entry.ensures.rest) c.clean.ensures.one_write
-
-pub returns-clause-closed : goal.returns-clause-closed
-returns-clause-closed g c = c.drop_entry.ensures.closed
 
 pub returns-clause-lasts : goal.returns-clause-lasts
 returns-clause-lasts g c = lasts_trans _ _ _ c.clean.ensures.lasts c.drop_entry.ensures.lasts

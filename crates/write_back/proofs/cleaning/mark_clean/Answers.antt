@@ -12,36 +12,6 @@ use Rattle.write_back.proofs.cleaning.mark_clean.Goals as goal
 pub returns-clause-keeps : goal.returns-clause-keeps
 returns-clause-keeps g c = keeps_settled c.args.k _ _ (c.in_ok-set_clean.ensures.changes.rest) c.requires.valid c.requires.bare c.requires.written c.requires.synced (retagged c.args.k _ _ _ c.in_ok-set_clean.ensures.changes.one_entry c.in_ok-set_clean.ensures.entry)
 
-pub returns-clause-rest : goal.returns-clause-rest
-returns-clause-rest g c = c.set_clean.ensures.changes.rest
-
-pub returns-clause-one_entry : goal.returns-clause-one_entry
-returns-clause-one_entry g c = c.set_clean.ensures.changes.one_entry
-
-pub returns-clause-closed : goal.returns-clause-closed
-returns-clause-closed g c = c.set_clean.ensures.changes.closed
-
-pub returns-clause-lasts : goal.returns-clause-lasts
-returns-clause-lasts g c = c.set_clean.ensures.changes.lasts
-
-pub returns-in_err-set_clean-clause-rest : goal.returns-in_err-set_clean-clause-rest
-returns-in_err-set_clean-clause-rest g c = c.set_clean.ensures.changes.rest
-
-pub returns-in_err-set_clean-clause-one_entry : goal.returns-in_err-set_clean-clause-one_entry
-returns-in_err-set_clean-clause-one_entry g c = c.set_clean.ensures.changes.one_entry
-
-pub returns-in_err-set_clean-clause-closed : goal.returns-in_err-set_clean-clause-closed
-returns-in_err-set_clean-clause-closed g c = c.set_clean.ensures.changes.closed
-
-pub returns-in_err-set_clean-clause-lasts : goal.returns-in_err-set_clean-clause-lasts
-returns-in_err-set_clean-clause-lasts g c = c.set_clean.ensures.changes.lasts
-
-pub returns-clause-same : goal.returns-clause-same
-returns-clause-same g c = tt
-
-pub returns-clause-ends : goal.returns-clause-ends
-returns-clause-ends g c = c.in_ok-set_clean.ensures.changes.ends
-
 pub returns-in_err-set_clean-clause-keeps : goal.returns-in_err-set_clean-clause-keeps
 returns-in_err-set_clean-clause-keeps g c = subst (λ m. Keeps (g.M.Machine.contents c.args.m.now) m) (sym c.in_err-set_clean.ensures.same) (keeps_refl (g.M.Machine.contents c.args.m.now))
 
@@ -59,6 +29,3 @@ returns-in_err-set_clean-clause-held g c = held_same c.args.k _ _ (ap (λ (m : C
 
 pub set_clean-requires-clause-can : goal.set_clean-requires-clause-can
 set_clean-requires-clause-can g c = record { layout = layout_now _ _ c.requires.coherent; closed = c.requires.closed; entry = c.requires.valid.within }
-
-pub set_clean-requires-clause-valid : goal.set_clean-requires-clause-valid
-set_clean-requires-clause-valid g c = c.requires.valid.valid

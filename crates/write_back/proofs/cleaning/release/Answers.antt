@@ -22,59 +22,14 @@ returns-clause-narrows g c = narrows_gone c.args.k _ _ c.requires.coherent.rules
 pub returns-clause-ends : goal.returns-clause-ends
 returns-clause-ends g c = ends_as _ _ _ _ _ _ (λ e. absurd (true_false (sym e))) c.in_ok-mark_clean.ensures.ends c.in_ok-drop_entry-2.ensures.ends (λ e. absurd (true_false (sym e))) (λ e. absurd (true_false (sym e)))
 
-pub drop_entry-requires-clause-coherent : goal.drop_entry-requires-clause-coherent
-drop_entry-requires-clause-coherent g c = c.requires.coherent
-
-pub drop_entry-requires-clause-closed : goal.drop_entry-requires-clause-closed
-drop_entry-requires-clause-closed g c = c.requires.closed
-
-pub drop_entry-requires-clause-valid : goal.drop_entry-requires-clause-valid
-drop_entry-requires-clause-valid g c = c.requires.valid
-
 pub drop_entry-requires-clause-clean : goal.drop_entry-requires-clause-clean
 drop_entry-requires-clause-clean g c = (ap is_dirty (sym c.load_tag-tag.ensures) ∙ sym c.is_dirty.ensures ∙ c.if-not-is_dirty.true)
-
-pub mark_clean-requires-clause-coherent : goal.mark_clean-requires-clause-coherent
-mark_clean-requires-clause-coherent g c = c.requires.coherent
-
-pub mark_clean-requires-clause-closed : goal.mark_clean-requires-clause-closed
-mark_clean-requires-clause-closed g c = c.requires.closed
-
-pub mark_clean-requires-clause-valid : goal.mark_clean-requires-clause-valid
-mark_clean-requires-clause-valid g c = c.requires.valid
-
-pub mark_clean-requires-clause-bare : goal.mark_clean-requires-clause-bare
-mark_clean-requires-clause-bare g c = c.requires.bare
 
 pub mark_clean-requires-clause-written : goal.mark_clean-requires-clause-written
 mark_clean-requires-clause-written g c = c.requires.written (ap is_dirty (sym c.load_tag-tag.ensures) ∙ sym c.is_dirty.ensures ∙ c.if-not-is_dirty.false)
 
 pub mark_clean-requires-clause-synced : goal.mark_clean-requires-clause-synced
 mark_clean-requires-clause-synced g c = c.requires.synced (ap is_dirty (sym c.load_tag-tag.ensures) ∙ sym c.is_dirty.ensures ∙ c.if-not-is_dirty.false)
-
-pub drop_entry-requires-2-clause-closed : goal.drop_entry-requires-2-clause-closed
-drop_entry-requires-2-clause-closed g c = c.mark_clean.ensures.closed
-
-pub drop_entry-requires-2-clause-valid : goal.drop_entry-requires-2-clause-valid
-drop_entry-requires-2-clause-valid g c = c.in_ok-mark_clean.ensures.cleaned.valid
-
-pub drop_entry-requires-2-clause-clean : goal.drop_entry-requires-2-clause-clean
-drop_entry-requires-2-clause-clean g c = c.in_ok-mark_clean.ensures.cleaned.clean
-
-pub returns-in_err-drop_entry-clause-keeps : goal.returns-in_err-drop_entry-clause-keeps
-returns-in_err-drop_entry-clause-keeps g c = c.drop_entry.ensures.keeps
-
-pub returns-in_err-drop_entry-clause-one_entry : goal.returns-in_err-drop_entry-clause-one_entry
-returns-in_err-drop_entry-clause-one_entry g c = c.drop_entry.ensures.one_entry
-
-pub returns-in_err-drop_entry-clause-rest : goal.returns-in_err-drop_entry-clause-rest
-returns-in_err-drop_entry-clause-rest g c = c.drop_entry.ensures.rest
-
-pub returns-in_err-drop_entry-clause-closed : goal.returns-in_err-drop_entry-clause-closed
-returns-in_err-drop_entry-clause-closed g c = c.drop_entry.ensures.closed
-
-pub returns-in_err-drop_entry-clause-lasts : goal.returns-in_err-drop_entry-clause-lasts
-returns-in_err-drop_entry-clause-lasts g c = c.drop_entry.ensures.lasts
 
 pub returns-in_err-drop_entry-clause-gone : goal.returns-in_err-drop_entry-clause-gone
 returns-in_err-drop_entry-clause-gone g c = not_ok _ c.from_residual.result c.from_residual.ensures.0
@@ -91,21 +46,6 @@ returns-in_err-drop_entry-clause-narrows g c = narrows_same _ _ c.requires.coher
 pub returns-in_err-drop_entry-clause-ends : goal.returns-in_err-drop_entry-clause-ends
 returns-in_err-drop_entry-clause-ends g c = ends_err _ _ _ _ _ refl c.from_residual.ensures.0 (steps_refl _) c.in_err-drop_entry.ensures.ends
 
-pub returns-in_err-mark_clean-clause-keeps : goal.returns-in_err-mark_clean-clause-keeps
-returns-in_err-mark_clean-clause-keeps g c = c.mark_clean.ensures.keeps
-
-pub returns-in_err-mark_clean-clause-one_entry : goal.returns-in_err-mark_clean-clause-one_entry
-returns-in_err-mark_clean-clause-one_entry g c = c.mark_clean.ensures.one_entry
-
-pub returns-in_err-mark_clean-clause-rest : goal.returns-in_err-mark_clean-clause-rest
-returns-in_err-mark_clean-clause-rest g c = c.mark_clean.ensures.rest
-
-pub returns-in_err-mark_clean-clause-closed : goal.returns-in_err-mark_clean-clause-closed
-returns-in_err-mark_clean-clause-closed g c = c.mark_clean.ensures.closed
-
-pub returns-in_err-mark_clean-clause-lasts : goal.returns-in_err-mark_clean-clause-lasts
-returns-in_err-mark_clean-clause-lasts g c = c.mark_clean.ensures.lasts
-
 pub returns-in_err-mark_clean-clause-gone : goal.returns-in_err-mark_clean-clause-gone
 returns-in_err-mark_clean-clause-gone g c = not_ok _ c.from_residual-in_err-mark_clean.result c.from_residual-in_err-mark_clean.ensures.0
 
@@ -121,32 +61,8 @@ returns-in_err-mark_clean-clause-narrows g c = narrows_same _ _ c.requires.coher
 pub returns-in_err-mark_clean-clause-ends : goal.returns-in_err-mark_clean-clause-ends
 returns-in_err-mark_clean-clause-ends g c = ends_err _ _ _ _ _ refl c.from_residual-in_err-mark_clean.ensures.0 (steps_refl _) c.in_err-mark_clean.ensures.ends
 
-pub returns-then-not-is_dirty-clause-keeps : goal.returns-then-not-is_dirty-clause-keeps
-returns-then-not-is_dirty-clause-keeps g c = c.drop_entry.ensures.keeps
-
-pub returns-then-not-is_dirty-clause-one_entry : goal.returns-then-not-is_dirty-clause-one_entry
-returns-then-not-is_dirty-clause-one_entry g c = c.drop_entry.ensures.one_entry
-
-pub returns-then-not-is_dirty-clause-rest : goal.returns-then-not-is_dirty-clause-rest
-returns-then-not-is_dirty-clause-rest g c = c.drop_entry.ensures.rest
-
-pub returns-then-not-is_dirty-clause-closed : goal.returns-then-not-is_dirty-clause-closed
-returns-then-not-is_dirty-clause-closed g c = c.drop_entry.ensures.closed
-
-pub returns-then-not-is_dirty-clause-lasts : goal.returns-then-not-is_dirty-clause-lasts
-returns-then-not-is_dirty-clause-lasts g c = c.drop_entry.ensures.lasts
-
-pub returns-then-not-is_dirty-clause-gone : goal.returns-then-not-is_dirty-clause-gone
-returns-then-not-is_dirty-clause-gone g c = c.in_ok-drop_entry.ensures.gone
-
-pub returns-then-not-is_dirty-clause-held : goal.returns-then-not-is_dirty-clause-held
-returns-then-not-is_dirty-clause-held g c = tt
-
 pub returns-then-not-is_dirty-clause-marks : goal.returns-then-not-is_dirty-clause-marks
 returns-then-not-is_dirty-clause-marks g c = λ dirty. absurd (true_false (sym dirty ∙ ap is_dirty c.in_ok-drop_entry.ensures.gone))
-
-pub returns-then-not-is_dirty-clause-ends : goal.returns-then-not-is_dirty-clause-ends
-returns-then-not-is_dirty-clause-ends g c = c.in_ok-drop_entry.ensures.ends
 
 pub returns-in_err-drop_entry-2-clause-keeps : goal.returns-in_err-drop_entry-2-clause-keeps
 returns-in_err-drop_entry-2-clause-keeps g c = keeps_then _ _ _ c.mark_clean.ensures.keeps c.drop_entry-2.ensures.keeps
@@ -156,9 +72,6 @@ returns-in_err-drop_entry-2-clause-one_entry g c = one_entry_then c.args.k _ _ _
 
 pub returns-in_err-drop_entry-2-clause-rest : goal.returns-in_err-drop_entry-2-clause-rest
 returns-in_err-drop_entry-2-clause-rest g c = rest_then (g.M.Machine.contents c.args.m.now) (g.M.Machine.contents c.mark_clean.new.m) _ c.mark_clean.ensures.rest c.drop_entry-2.ensures.rest
-
-pub returns-in_err-drop_entry-2-clause-closed : goal.returns-in_err-drop_entry-2-clause-closed
-returns-in_err-drop_entry-2-clause-closed g c = c.drop_entry-2.ensures.closed
 
 pub returns-in_err-drop_entry-2-clause-lasts : goal.returns-in_err-drop_entry-2-clause-lasts
 returns-in_err-drop_entry-2-clause-lasts g c = lasts_trans _ _ _ c.mark_clean.ensures.lasts c.drop_entry-2.ensures.lasts
@@ -184,17 +97,8 @@ returns-clause-one_entry g c = one_entry_then c.args.k _ _ _ c.mark_clean.ensure
 pub returns-clause-rest : goal.returns-clause-rest
 returns-clause-rest g c = rest_then (g.M.Machine.contents c.args.m.now) (g.M.Machine.contents c.mark_clean.new.m) _ c.mark_clean.ensures.rest c.drop_entry-2.ensures.rest
 
-pub returns-clause-closed : goal.returns-clause-closed
-returns-clause-closed g c = c.drop_entry-2.ensures.closed
-
 pub returns-clause-lasts : goal.returns-clause-lasts
 returns-clause-lasts g c = lasts_trans _ _ _ c.mark_clean.ensures.lasts c.drop_entry-2.ensures.lasts
-
-pub returns-clause-gone : goal.returns-clause-gone
-returns-clause-gone g c = c.in_ok-drop_entry-2.ensures.gone
-
-pub returns-clause-held : goal.returns-clause-held
-returns-clause-held g c = tt
 
 pub returns-clause-marks : goal.returns-clause-marks
 returns-clause-marks g c = λ dirty. absurd (true_false (sym dirty ∙ ap is_dirty c.in_ok-drop_entry-2.ensures.gone))

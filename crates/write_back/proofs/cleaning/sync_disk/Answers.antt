@@ -36,9 +36,6 @@ returns-clause-writes g c = ap (λ (m : Contents). m.writes) c.in_ok-sync.ensure
 pub returns-clause-closed : goal.returns-clause-closed
 returns-clause-closed g c = ap (λ (m : Contents). m.open_page) c.in_ok-sync.ensures.synced ∙ c.requires.closed
 
-pub returns-clause-lasts : goal.returns-clause-lasts
-returns-clause-lasts g c = c.sync.ensures.lasts
-
 pub returns-in_err-sync-clause-words : goal.returns-in_err-sync-clause-words
 returns-in_err-sync-clause-words g c = ap (λ (m : Contents). m.words) c.in_err-sync.ensures.same
 
@@ -51,14 +48,8 @@ returns-in_err-sync-clause-writes g c = ap (λ (m : Contents). m.writes) c.in_er
 pub returns-in_err-sync-clause-closed : goal.returns-in_err-sync-clause-closed
 returns-in_err-sync-clause-closed g c = ap (λ (m : Contents). m.open_page) c.in_err-sync.ensures.same ∙ c.requires.closed
 
-pub returns-in_err-sync-clause-lasts : goal.returns-in_err-sync-clause-lasts
-returns-in_err-sync-clause-lasts g c = c.sync.ensures.lasts
-
 pub returns-clause-synced : goal.returns-clause-synced
 returns-clause-synced g c = λ b. ap (λ (m : Contents). is_pending m.pending b) c.in_ok-sync.ensures.synced ∙ none_pending (length (g.M.Machine.contents c.args.m.now).disk) b
-
-pub returns-clause-same : goal.returns-clause-same
-returns-clause-same g c = tt
 
 pub returns-clause-fault : goal.returns-clause-fault
 returns-clause-fault g c = λ q. absurd (never _ _ q)

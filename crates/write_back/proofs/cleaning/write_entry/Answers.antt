@@ -34,9 +34,6 @@ returns-in_err-write_block-clause-pends g c = stays_pending (g.M.Machine.run c.a
 pub returns-clause-pends : goal.returns-clause-pends
 returns-clause-pends g c = stays_pending (g.M.Machine.run c.args.m.now).stopped _ (g.M.Machine.contents c.args.m.now) (g.M.Machine.contents c.write_block.new.self) c.write_block.ensures.pending c.write_block.ensures.frozen
 
-pub returns-in_err-write_block-clause-words : goal.returns-in_err-write_block-clause-words
-returns-in_err-write_block-clause-words g c = c.write_block.ensures.writes_block.words
-
 pub returns-in_err-write_block-clause-others : goal.returns-in_err-write_block-clause-others
 returns-in_err-write_block-clause-others g c = λ j v ne d. stays_on_disk _ _ _ c.args.k j _ c.requires.coherent c.write_block.ensures.writes_block c.requires.valid (c.block-block.ensures ∙ ap tag_block c.load_tag.ensures) v ne d
 
@@ -49,17 +46,11 @@ returns-in_err-write_block-clause-marks g c = λ b ne. c.write_block.ensures.wri
 pub returns-in_err-write_block-clause-closed : goal.returns-in_err-write_block-clause-closed
 returns-in_err-write_block-clause-closed g c = c.write_block.ensures.writes_block.open_page ∙ c.requires.closed
 
-pub returns-in_err-write_block-clause-lasts : goal.returns-in_err-write_block-clause-lasts
-returns-in_err-write_block-clause-lasts g c = c.write_block.ensures.lasts
-
 pub returns-in_err-write_block-clause-written : goal.returns-in_err-write_block-clause-written
 returns-in_err-write_block-clause-written g c = not_ok _ c.from_residual.result c.from_residual.ensures.0
 
 pub returns-in_err-write_block-clause-counted : goal.returns-in_err-write_block-clause-counted
 returns-in_err-write_block-clause-counted g c = not_ok _ c.from_residual.result c.from_residual.ensures.0
-
-pub returns-clause-words : goal.returns-clause-words
-returns-clause-words g c = c.write_block.ensures.writes_block.words
 
 pub returns-clause-others : goal.returns-clause-others
 returns-clause-others g c = λ j v ne d. stays_on_disk _ _ _ c.args.k j _ c.requires.coherent c.write_block.ensures.writes_block c.requires.valid (c.block-block.ensures ∙ ap tag_block c.load_tag.ensures) v ne d
@@ -72,9 +63,6 @@ returns-clause-marks g c = λ b ne. c.write_block.ensures.writes_block.marks b (
 
 pub returns-clause-closed : goal.returns-clause-closed
 returns-clause-closed g c = c.write_block.ensures.writes_block.open_page ∙ c.requires.closed
-
-pub returns-clause-lasts : goal.returns-clause-lasts
-returns-clause-lasts g c = c.write_block.ensures.lasts
 
 pub returns-clause-fault : goal.returns-clause-fault
 returns-clause-fault g c = λ q. absurd (never _ _ q)
@@ -94,12 +82,6 @@ returns-in_err-write_block-clause-ends g c =
 
 pub load_tag-requires-clause-layout : goal.load_tag-requires-clause-layout
 load_tag-requires-clause-layout g c = layout_now _ _ c.requires.coherent
-
-pub load_tag-requires-clause-entry : goal.load_tag-requires-clause-entry
-load_tag-requires-clause-entry g c = c.requires.valid.within
-
-pub write_block-requires-clause-closed : goal.write_block-requires-clause-closed
-write_block-requires-clause-closed g c = c.requires.closed
 
 pub returns-clause-counted : goal.returns-clause-counted
 returns-clause-counted g c = (c.in_ok-write_block.ensures.made (λ q. cc)).0

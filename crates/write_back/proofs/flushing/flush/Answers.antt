@@ -40,26 +40,11 @@ pub returns-clause-ends : goal.returns-clause-ends
 returns-clause-ends g c =
     ends_as _ _ _ _ _ _ (never _ Stopped) (ends_then _ _ _ _ _ (never _ Stopped) c.in_ok-written.ensures.ends c.in_ok-sync_disk.ensures.ends) c.in_ok-mark_first.ensures.ends (λ e. absurd (never _ Stopped e)) (λ e. absurd (never _ Stopped e))
 
-pub write_first-requires-clause-coherent : goal.write_first-requires-clause-coherent
-write_first-requires-clause-coherent g c = c.requires.coherent
-
-pub write_first-requires-clause-closed : goal.write_first-requires-clause-closed
-write_first-requires-clause-closed g c = c.requires.closed
-
-pub mark_first-requires-clause-closed : goal.mark_first-requires-clause-closed
-mark_first-requires-clause-closed g c = c.sync_disk.ensures.closed
-
 pub mark_first-requires-clause-shut : goal.mark_first-requires-clause-shut
 mark_first-requires-clause-shut g c = λ e. c.requires.shut (sym (ap (λ (ws : List ℕ). gate_of ws) (c.sync_disk.ensures.words ∙ c.write_first.ensures.words)) ∙ e)
 
 pub mark_first-requires-clause-many : goal.mark_first-requires-clause-many
 mark_first-requires-clause-many g c = subst (λ (ws : List ℕ). c.in_ok-written.written ≤ length (dirty_entries ws)) (sym (c.sync_disk.ensures.words ∙ c.write_first.ensures.words)) (omega (arith, c.in_ok-written.ensures.written.count))
-
-pub mark_first-requires-clause-synced : goal.mark_first-requires-clause-synced
-mark_first-requires-clause-synced g c = c.in_ok-sync_disk.ensures.synced
-
-pub returns-in_err-written-clause-keeps : goal.returns-in_err-written-clause-keeps
-returns-in_err-written-clause-keeps g c = c.write_first.ensures.keeps
 
 pub returns-in_err-written-clause-flushed : goal.returns-in_err-written-clause-flushed
 returns-in_err-written-clause-flushed g c = not_ok _ c.from_residual.result c.from_residual.ensures.0
@@ -67,20 +52,11 @@ returns-in_err-written-clause-flushed g c = not_ok _ c.from_residual.result c.fr
 pub returns-in_err-written-clause-unmarked : goal.returns-in_err-written-clause-unmarked
 returns-in_err-written-clause-unmarked g c = λ e. c.write_first.ensures.words
 
-pub returns-in_err-written-clause-few_writes : goal.returns-in_err-written-clause-few_writes
-returns-in_err-written-clause-few_writes g c = c.write_first.ensures.few
-
 pub returns-in_err-written-clause-held : goal.returns-in_err-written-clause-held
 returns-in_err-written-clause-held g c = λ k less. held_same k _ _ c.write_first.ensures.words
 
 pub returns-in_err-written-clause-narrows : goal.returns-in_err-written-clause-narrows
 returns-in_err-written-clause-narrows g c = narrows_same _ _ c.requires.coherent.rules.blocks c.write_first.ensures.words
-
-pub returns-in_err-written-clause-closed : goal.returns-in_err-written-clause-closed
-returns-in_err-written-clause-closed g c = c.write_first.ensures.closed
-
-pub returns-in_err-written-clause-lasts : goal.returns-in_err-written-clause-lasts
-returns-in_err-written-clause-lasts g c = c.write_first.ensures.lasts
 
 pub returns-in_err-written-clause-fault : goal.returns-in_err-written-clause-fault
 returns-in_err-written-clause-fault g c = let p = err_from_is_err_and c.from_residual.result c.from_residual.ensures.1 in fault_told _ _ _ (p.1 ∙ ap Err p.2) c.in_err-written.ensures.fault
@@ -102,9 +78,6 @@ returns-in_err-sync_disk-clause-held g c = λ k less. held_same k _ _ (c.sync_di
 
 pub returns-in_err-sync_disk-clause-narrows : goal.returns-in_err-sync_disk-clause-narrows
 returns-in_err-sync_disk-clause-narrows g c = narrows_same _ _ c.requires.coherent.rules.blocks (c.sync_disk.ensures.words ∙ c.write_first.ensures.words)
-
-pub returns-in_err-sync_disk-clause-closed : goal.returns-in_err-sync_disk-clause-closed
-returns-in_err-sync_disk-clause-closed g c = c.sync_disk.ensures.closed
 
 pub returns-in_err-sync_disk-clause-lasts : goal.returns-in_err-sync_disk-clause-lasts
 returns-in_err-sync_disk-clause-lasts g c = lasts_trans _ _ _ c.write_first.ensures.lasts c.sync_disk.ensures.lasts
@@ -133,9 +106,6 @@ returns-in_err-mark_first-clause-few_writes g c = few_on _ _ _ (writes_rest (g.M
 pub returns-in_err-mark_first-clause-held : goal.returns-in_err-mark_first-clause-held
 returns-in_err-mark_first-clause-held g c = λ k less. held_from k _ _ _ (c.sync_disk.ensures.words ∙ c.write_first.ensures.words) (c.mark_first.ensures.held k)
 
-pub returns-in_err-mark_first-clause-closed : goal.returns-in_err-mark_first-clause-closed
-returns-in_err-mark_first-clause-closed g c = c.mark_first.ensures.closed
-
 pub returns-in_err-mark_first-clause-lasts : goal.returns-in_err-mark_first-clause-lasts
 returns-in_err-mark_first-clause-lasts g c = lasts_trans _ _ _ (lasts_trans _ _ _ c.write_first.ensures.lasts c.sync_disk.ensures.lasts) c.mark_first.ensures.lasts
 
@@ -153,9 +123,6 @@ returns-clause-few_writes g c = few_on _ _ _ (writes_rest (g.M.Machine.contents 
 
 pub returns-clause-held : goal.returns-clause-held
 returns-clause-held g c = λ k less. held_from k _ _ _ (c.sync_disk.ensures.words ∙ c.write_first.ensures.words) (c.mark_first.ensures.held k)
-
-pub returns-clause-closed : goal.returns-clause-closed
-returns-clause-closed g c = c.mark_first.ensures.closed
 
 pub returns-clause-lasts : goal.returns-clause-lasts
 returns-clause-lasts g c = lasts_trans _ _ _ (lasts_trans _ _ _ c.write_first.ensures.lasts c.sync_disk.ensures.lasts) c.mark_first.ensures.lasts

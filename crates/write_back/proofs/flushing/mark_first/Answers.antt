@@ -56,9 +56,6 @@ returns-in_err-dirty-clause-cleaned g c = not_ok _ c.from_residual.result c.from
 pub returns-in_err-dirty-clause-rest : goal.returns-in_err-dirty-clause-rest
 returns-in_err-dirty-clause-rest g c = rest_then (g.M.Machine.contents c.args.m.now) (g.M.Machine.contents c.loop-k.m) _ c.loop-k.invariant.rest c.mark_if_dirty.ensures.rest
 
-pub returns-in_err-dirty-clause-closed : goal.returns-in_err-dirty-clause-closed
-returns-in_err-dirty-clause-closed g c = c.mark_if_dirty.ensures.closed
-
 pub returns-in_err-dirty-clause-lasts : goal.returns-in_err-dirty-clause-lasts
 returns-in_err-dirty-clause-lasts g c = lasts_trans _ _ _ c.loop-k.invariant.lasts c.mark_if_dirty.ensures.lasts
 
@@ -80,20 +77,8 @@ mark_if_dirty-requires-clause-shut g c = λ shut. c.requires.shut (sym (c.loop-k
 pub mark_if_dirty-requires-clause-synced : goal.mark_if_dirty-requires-clause-synced
 mark_if_dirty-requires-clause-synced g c = λ b. ap (λ (m : Contents). is_pending m.pending b) c.loop-k.invariant.rest ∙ c.requires.synced b
 
-pub returns-then-marked-count-clause-keeps : goal.returns-then-marked-count-clause-keeps
-returns-then-marked-count-clause-keeps g c = c.loop-k.invariant.keeps
-
-pub returns-then-marked-count-clause-rest : goal.returns-then-marked-count-clause-rest
-returns-then-marked-count-clause-rest g c = c.loop-k.invariant.rest
-
-pub returns-then-marked-count-clause-held : goal.returns-then-marked-count-clause-held
-returns-then-marked-count-clause-held g c = c.loop-k.invariant.held
-
 pub returns-then-marked-count-clause-closed : goal.returns-then-marked-count-clause-closed
 returns-then-marked-count-clause-closed g c = ap (λ (m : Contents). m.open_page) c.loop-k.invariant.rest ∙ c.requires.closed
-
-pub returns-then-marked-count-clause-lasts : goal.returns-then-marked-count-clause-lasts
-returns-then-marked-count-clause-lasts g c = c.loop-k.invariant.lasts
 
 pub returns-then-marked-count-clause-fault : goal.returns-then-marked-count-clause-fault
 returns-then-marked-count-clause-fault g c = never _ _
@@ -101,20 +86,8 @@ returns-then-marked-count-clause-fault g c = never _ _
 pub returns-then-marked-count-clause-ends : goal.returns-then-marked-count-clause-ends
 returns-then-marked-count-clause-ends g c = record { steps = c.loop-k.invariant.steps; told = λ q. absurd (never _ Stopped q); runs = λ q. c.loop-k.invariant.runs }
 
-pub returns-clause-keeps : goal.returns-clause-keeps
-returns-clause-keeps g c = c.loop-k.invariant.keeps
-
-pub returns-clause-rest : goal.returns-clause-rest
-returns-clause-rest g c = c.loop-k.invariant.rest
-
-pub returns-clause-held : goal.returns-clause-held
-returns-clause-held g c = c.loop-k.invariant.held
-
 pub returns-clause-closed : goal.returns-clause-closed
 returns-clause-closed g c = ap (λ (m : Contents). m.open_page) c.loop-k.invariant.rest ∙ c.requires.closed
-
-pub returns-clause-lasts : goal.returns-clause-lasts
-returns-clause-lasts g c = c.loop-k.invariant.lasts
 
 pub returns-clause-fault : goal.returns-clause-fault
 returns-clause-fault g c = never _ _

@@ -22,17 +22,11 @@ returns-then-not-is_valid-clause-cleaned g c = λ e. absurd (true_false (sym e �
 pub returns-then-not-is_valid-clause-same : goal.returns-then-not-is_valid-clause-same
 returns-then-not-is_valid-clause-same g c = λ e. refl
 
-pub returns-then-not-is_valid-clause-rest : goal.returns-then-not-is_valid-clause-rest
-returns-then-not-is_valid-clause-rest g c = refl
-
 pub returns-then-not-is_valid-clause-held : goal.returns-then-not-is_valid-clause-held
 returns-then-not-is_valid-clause-held g c = held_same c.args.k _ _ refl
 
 pub returns-then-not-is_valid-clause-one_entry : goal.returns-then-not-is_valid-clause-one_entry
 returns-then-not-is_valid-clause-one_entry g c = one_same c.args.k _ _ refl
-
-pub returns-then-not-is_valid-clause-closed : goal.returns-then-not-is_valid-clause-closed
-returns-then-not-is_valid-clause-closed g c = c.requires.closed
 
 pub returns-then-not-is_valid-clause-lasts : goal.returns-then-not-is_valid-clause-lasts
 returns-then-not-is_valid-clause-lasts g c = lasts_refl _
@@ -55,17 +49,11 @@ returns-then-not-is_dirty-clause-cleaned g c = λ e. absurd (true_false (sym e �
 pub returns-then-not-is_dirty-clause-same : goal.returns-then-not-is_dirty-clause-same
 returns-then-not-is_dirty-clause-same g c = λ e. refl
 
-pub returns-then-not-is_dirty-clause-rest : goal.returns-then-not-is_dirty-clause-rest
-returns-then-not-is_dirty-clause-rest g c = refl
-
 pub returns-then-not-is_dirty-clause-held : goal.returns-then-not-is_dirty-clause-held
 returns-then-not-is_dirty-clause-held g c = held_same c.args.k _ _ refl
 
 pub returns-then-not-is_dirty-clause-one_entry : goal.returns-then-not-is_dirty-clause-one_entry
 returns-then-not-is_dirty-clause-one_entry g c = one_same c.args.k _ _ refl
-
-pub returns-then-not-is_dirty-clause-closed : goal.returns-then-not-is_dirty-clause-closed
-returns-then-not-is_dirty-clause-closed g c = c.requires.closed
 
 pub returns-then-not-is_dirty-clause-lasts : goal.returns-then-not-is_dirty-clause-lasts
 returns-then-not-is_dirty-clause-lasts g c = lasts_refl _
@@ -75,12 +63,6 @@ returns-then-not-is_dirty-clause-fault g c = λ e. never _ Fault e
 
 pub returns-then-not-is_dirty-clause-ends : goal.returns-then-not-is_dirty-clause-ends
 returns-then-not-is_dirty-clause-ends g c = ends_none _ _ (never _ Stopped)
-
-pub mark_clean-requires-clause-coherent : goal.mark_clean-requires-clause-coherent
-mark_clean-requires-clause-coherent g c = c.requires.coherent
-
-pub mark_clean-requires-clause-closed : goal.mark_clean-requires-clause-closed
-mark_clean-requires-clause-closed g c = c.requires.closed
 
 pub mark_clean-requires-clause-valid : goal.mark_clean-requires-clause-valid
 mark_clean-requires-clause-valid g c = record { within = c.requires.entry; valid = (ap is_valid (sym c.load_tag-tag.ensures) ∙ sym c.is_valid.ensures ∙ c.if-not-is_valid.false) }
@@ -93,24 +75,6 @@ mark_clean-requires-clause-written g c = c.requires.written (needs_both _ c.args
 
 pub mark_clean-requires-clause-synced : goal.mark_clean-requires-clause-synced
 mark_clean-requires-clause-synced g c = c.requires.synced _
-
-pub returns-in_err-mark_clean-clause-keeps : goal.returns-in_err-mark_clean-clause-keeps
-returns-in_err-mark_clean-clause-keeps g c = c.mark_clean.ensures.keeps
-
-pub returns-in_err-mark_clean-clause-rest : goal.returns-in_err-mark_clean-clause-rest
-returns-in_err-mark_clean-clause-rest g c = c.mark_clean.ensures.rest
-
-pub returns-in_err-mark_clean-clause-held : goal.returns-in_err-mark_clean-clause-held
-returns-in_err-mark_clean-clause-held g c = c.mark_clean.ensures.held
-
-pub returns-in_err-mark_clean-clause-one_entry : goal.returns-in_err-mark_clean-clause-one_entry
-returns-in_err-mark_clean-clause-one_entry g c = c.mark_clean.ensures.one_entry
-
-pub returns-in_err-mark_clean-clause-closed : goal.returns-in_err-mark_clean-clause-closed
-returns-in_err-mark_clean-clause-closed g c = c.mark_clean.ensures.closed
-
-pub returns-in_err-mark_clean-clause-lasts : goal.returns-in_err-mark_clean-clause-lasts
-returns-in_err-mark_clean-clause-lasts g c = c.mark_clean.ensures.lasts
 
 pub returns-in_err-mark_clean-clause-answer : goal.returns-in_err-mark_clean-clause-answer
 returns-in_err-mark_clean-clause-answer g c = not_ok _ c.from_residual.result c.from_residual.ensures.0
@@ -126,24 +90,6 @@ returns-in_err-mark_clean-clause-fault g c = let p = err_from_is_err_and c.from_
 
 pub returns-in_err-mark_clean-clause-ends : goal.returns-in_err-mark_clean-clause-ends
 returns-in_err-mark_clean-clause-ends g c = let p = err_from_is_err_and c.from_residual.result c.from_residual.ensures.1 in ends_err _ _ _ _ _ refl (p.1 ∙ ap Err p.2) (steps_refl _) c.in_err-mark_clean.ensures.ends
-
-pub returns-clause-keeps : goal.returns-clause-keeps
-returns-clause-keeps g c = c.mark_clean.ensures.keeps
-
-pub returns-clause-rest : goal.returns-clause-rest
-returns-clause-rest g c = c.mark_clean.ensures.rest
-
-pub returns-clause-held : goal.returns-clause-held
-returns-clause-held g c = c.mark_clean.ensures.held
-
-pub returns-clause-one_entry : goal.returns-clause-one_entry
-returns-clause-one_entry g c = c.mark_clean.ensures.one_entry
-
-pub returns-clause-closed : goal.returns-clause-closed
-returns-clause-closed g c = c.mark_clean.ensures.closed
-
-pub returns-clause-lasts : goal.returns-clause-lasts
-returns-clause-lasts g c = c.mark_clean.ensures.lasts
 
 pub returns-clause-answer : goal.returns-clause-answer
 returns-clause-answer g c = sym (needs_both _ c.args.k (ap is_valid (sym c.load_tag-tag.ensures) ∙ sym c.is_valid.ensures ∙ c.if-not-is_valid.false) (ap is_dirty (sym c.load_tag-tag.ensures) ∙ sym c.is_dirty.ensures ∙ c.if-not-is_dirty.false))
@@ -162,6 +108,3 @@ returns-clause-ends g c = let ends = c.in_ok-mark_clean.ensures.ends in record {
 
 pub load_tag-tag-requires-clause-layout : goal.load_tag-tag-requires-clause-layout
 load_tag-tag-requires-clause-layout g c = layout_now _ _ c.requires.coherent
-
-pub load_tag-tag-requires-clause-entry : goal.load_tag-tag-requires-clause-entry
-load_tag-tag-requires-clause-entry g c = c.requires.entry

@@ -52,9 +52,6 @@ returns-in_err-dirty-clause-words g c = c.write_if_dirty.ensures.words ∙ c.loo
 pub returns-in_err-dirty-clause-written : goal.returns-in_err-dirty-clause-written
 returns-in_err-dirty-clause-written g c = not_ok _ c.from_residual.result c.from_residual.ensures.0
 
-pub returns-in_err-dirty-clause-closed : goal.returns-in_err-dirty-clause-closed
-returns-in_err-dirty-clause-closed g c = c.write_if_dirty.ensures.closed
-
 pub returns-in_err-dirty-clause-lasts : goal.returns-in_err-dirty-clause-lasts
 returns-in_err-dirty-clause-lasts g c = lasts_trans _ _ _ c.loop-k.invariant.lasts c.write_if_dirty.ensures.lasts
 
@@ -70,41 +67,14 @@ frame_count-frames-requires g c = record { layout = layout_now _ _ c.requires.co
 pub frame_page_of-first-requires-clause-layout : goal.frame_page_of-first-requires-clause-layout
 frame_page_of-first-requires-clause-layout g c = layout_now _ _ c.requires.coherent
 
-pub write_if_dirty-requires-clause-closed : goal.write_if_dirty-requires-clause-closed
-write_if_dirty-requires-clause-closed g c = c.loop-k.invariant.closed
-
 pub write_if_dirty-requires-clause-entry : goal.write_if_dirty-requires-clause-entry
 write_if_dirty-requires-clause-entry g c = subst (λ f. c.loop-k.k < f) (c.frame_count-frames.ensures ∙ ap (λ (ws : List ℕ). frames_of ws) (sym c.loop-k.invariant.words)) c.loop-k-test.true
-
-pub returns-then-from-n-clause-keeps : goal.returns-then-from-n-clause-keeps
-returns-then-from-n-clause-keeps g c = c.loop-k.invariant.keeps
-
-pub returns-then-from-n-clause-words : goal.returns-then-from-n-clause-words
-returns-then-from-n-clause-words g c = c.loop-k.invariant.words
-
-pub returns-then-from-n-clause-closed : goal.returns-then-from-n-clause-closed
-returns-then-from-n-clause-closed g c = c.loop-k.invariant.closed
-
-pub returns-then-from-n-clause-lasts : goal.returns-then-from-n-clause-lasts
-returns-then-from-n-clause-lasts g c = c.loop-k.invariant.lasts
 
 pub returns-then-from-n-clause-fault : goal.returns-then-from-n-clause-fault
 returns-then-from-n-clause-fault g c = λ q. absurd (never _ _ q)
 
 pub returns-then-from-n-clause-ends : goal.returns-then-from-n-clause-ends
 returns-then-from-n-clause-ends g c = record { steps = c.loop-k.invariant.steps; told = λ q. absurd (never _ Stopped q); runs = λ q. c.loop-k.invariant.runs }
-
-pub returns-clause-keeps : goal.returns-clause-keeps
-returns-clause-keeps g c = c.loop-k.invariant.keeps
-
-pub returns-clause-words : goal.returns-clause-words
-returns-clause-words g c = c.loop-k.invariant.words
-
-pub returns-clause-closed : goal.returns-clause-closed
-returns-clause-closed g c = c.loop-k.invariant.closed
-
-pub returns-clause-lasts : goal.returns-clause-lasts
-returns-clause-lasts g c = c.loop-k.invariant.lasts
 
 pub returns-clause-fault : goal.returns-clause-fault
 returns-clause-fault g c = λ q. absurd (never _ _ q)

@@ -12,9 +12,6 @@ use Rattle.write_back.proofs.flushing.write_if_dirty.Goals as goal
 pub returns-then-not-is_valid-clause-keeps : goal.returns-then-not-is_valid-clause-keeps
 returns-then-not-is_valid-clause-keeps g c = keeps_refl _
 
-pub returns-then-not-is_valid-clause-words : goal.returns-then-not-is_valid-clause-words
-returns-then-not-is_valid-clause-words g c = refl
-
 pub returns-then-not-is_valid-clause-answer : goal.returns-then-not-is_valid-clause-answer
 returns-then-not-is_valid-clause-answer g c = sym (not_valid _ c.args.k (ap is_valid (sym c.load_tag-tag.ensures) ∙ sym c.is_valid.ensures ∙ c.if-not-is_valid.true))
 
@@ -30,9 +27,6 @@ returns-then-not-is_valid-clause-counted g c = sym (raised_none _)
 pub returns-then-not-is_valid-clause-one_write : goal.returns-then-not-is_valid-clause-one_write
 returns-then-not-is_valid-clause-one_write g c = one_more _
 
-pub returns-then-not-is_valid-clause-closed : goal.returns-then-not-is_valid-clause-closed
-returns-then-not-is_valid-clause-closed g c = c.requires.closed
-
 pub returns-then-not-is_valid-clause-lasts : goal.returns-then-not-is_valid-clause-lasts
 returns-then-not-is_valid-clause-lasts g c = lasts_refl _
 
@@ -44,9 +38,6 @@ returns-then-not-is_valid-clause-ends g c = ends_none _ _ (never _ Stopped)
 
 pub returns-then-not-is_dirty-clause-keeps : goal.returns-then-not-is_dirty-clause-keeps
 returns-then-not-is_dirty-clause-keeps g c = keeps_refl _
-
-pub returns-then-not-is_dirty-clause-words : goal.returns-then-not-is_dirty-clause-words
-returns-then-not-is_dirty-clause-words g c = refl
 
 pub returns-then-not-is_dirty-clause-answer : goal.returns-then-not-is_dirty-clause-answer
 returns-then-not-is_dirty-clause-answer g c = sym (not_dirty _ c.args.k (ap is_valid (sym c.load_tag-tag.ensures) ∙ sym c.is_valid.ensures ∙ c.if-not-is_valid.false) (ap is_dirty (sym c.load_tag-tag.ensures) ∙ sym c.is_dirty.ensures ∙ c.if-not-is_dirty.true))
@@ -63,9 +54,6 @@ returns-then-not-is_dirty-clause-counted g c = sym (raised_none _)
 pub returns-then-not-is_dirty-clause-one_write : goal.returns-then-not-is_dirty-clause-one_write
 returns-then-not-is_dirty-clause-one_write g c = one_more _
 
-pub returns-then-not-is_dirty-clause-closed : goal.returns-then-not-is_dirty-clause-closed
-returns-then-not-is_dirty-clause-closed g c = c.requires.closed
-
 pub returns-then-not-is_dirty-clause-lasts : goal.returns-then-not-is_dirty-clause-lasts
 returns-then-not-is_dirty-clause-lasts g c = lasts_refl _
 
@@ -75,38 +63,11 @@ returns-then-not-is_dirty-clause-fault g c = λ e. absurd (never _ Fault e)
 pub returns-then-not-is_dirty-clause-ends : goal.returns-then-not-is_dirty-clause-ends
 returns-then-not-is_dirty-clause-ends g c = ends_none _ _ (never _ Stopped)
 
-pub write_entry-requires-clause-coherent : goal.write_entry-requires-clause-coherent
-write_entry-requires-clause-coherent g c = c.requires.coherent
-
-pub write_entry-requires-clause-closed : goal.write_entry-requires-clause-closed
-write_entry-requires-clause-closed g c = c.requires.closed
-
-pub write_entry-requires-clause-page : goal.write_entry-requires-clause-page
-write_entry-requires-clause-page g c = c.requires.page
-
 pub write_entry-requires-clause-valid : goal.write_entry-requires-clause-valid
 write_entry-requires-clause-valid g c = record { within = c.requires.entry; valid = (ap is_valid (sym c.load_tag-tag.ensures) ∙ sym c.is_valid.ensures ∙ c.if-not-is_valid.false) }
 
 pub write_entry-requires-clause-dirty : goal.write_entry-requires-clause-dirty
 write_entry-requires-clause-dirty g c = (ap is_dirty (sym c.load_tag-tag.ensures) ∙ sym c.is_dirty.ensures ∙ c.if-not-is_dirty.false)
-
-pub returns-in_err-write_entry-clause-keeps : goal.returns-in_err-write_entry-clause-keeps
-returns-in_err-write_entry-clause-keeps g c = c.write_entry.ensures.keeps
-
-pub returns-in_err-write_entry-clause-words : goal.returns-in_err-write_entry-clause-words
-returns-in_err-write_entry-clause-words g c = c.write_entry.ensures.words
-
-pub returns-in_err-write_entry-clause-others : goal.returns-in_err-write_entry-clause-others
-returns-in_err-write_entry-clause-others g c = c.write_entry.ensures.others
-
-pub returns-in_err-write_entry-clause-one_write : goal.returns-in_err-write_entry-clause-one_write
-returns-in_err-write_entry-clause-one_write g c = c.write_entry.ensures.one_write
-
-pub returns-in_err-write_entry-clause-closed : goal.returns-in_err-write_entry-clause-closed
-returns-in_err-write_entry-clause-closed g c = c.write_entry.ensures.closed
-
-pub returns-in_err-write_entry-clause-lasts : goal.returns-in_err-write_entry-clause-lasts
-returns-in_err-write_entry-clause-lasts g c = c.write_entry.ensures.lasts
 
 pub returns-in_err-write_entry-clause-answer : goal.returns-in_err-write_entry-clause-answer
 returns-in_err-write_entry-clause-answer g c = not_ok _ c.from_residual.result c.from_residual.ensures.0
@@ -123,32 +84,11 @@ returns-in_err-write_entry-clause-fault g c = let p = err_from_is_err_and c.from
 pub returns-in_err-write_entry-clause-ends : goal.returns-in_err-write_entry-clause-ends
 returns-in_err-write_entry-clause-ends g c = let p = err_from_is_err_and c.from_residual.result c.from_residual.ensures.1 in ends_told _ _ _ _ _ (p.1 ∙ ap Err p.2) c.in_err-write_entry.ensures.ends
 
-pub returns-clause-keeps : goal.returns-clause-keeps
-returns-clause-keeps g c = c.write_entry.ensures.keeps
-
-pub returns-clause-words : goal.returns-clause-words
-returns-clause-words g c = c.write_entry.ensures.words
-
-pub returns-clause-others : goal.returns-clause-others
-returns-clause-others g c = c.write_entry.ensures.others
-
-pub returns-clause-one_write : goal.returns-clause-one_write
-returns-clause-one_write g c = c.write_entry.ensures.one_write
-
-pub returns-clause-closed : goal.returns-clause-closed
-returns-clause-closed g c = c.write_entry.ensures.closed
-
-pub returns-clause-lasts : goal.returns-clause-lasts
-returns-clause-lasts g c = c.write_entry.ensures.lasts
-
 pub returns-clause-answer : goal.returns-clause-answer
 returns-clause-answer g c = sym (needs_both _ c.args.k (ap is_valid (sym c.load_tag-tag.ensures) ∙ sym c.is_valid.ensures ∙ c.if-not-is_valid.false) (ap is_dirty (sym c.load_tag-tag.ensures) ∙ sym c.is_dirty.ensures ∙ c.if-not-is_dirty.false))
 
 pub returns-clause-written : goal.returns-clause-written
 returns-clause-written g c = λ e. c.in_ok-write_entry.ensures.written
-
-pub returns-clause-counted : goal.returns-clause-counted
-returns-clause-counted g c = c.in_ok-write_entry.ensures.counted
 
 pub returns-clause-fault : goal.returns-clause-fault
 returns-clause-fault g c = λ e. absurd (never _ Fault e)

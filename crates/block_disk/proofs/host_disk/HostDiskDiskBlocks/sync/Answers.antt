@@ -12,9 +12,6 @@ returns-clause-ok g c =
     let around = ap (λ (told : Option Files). around_of told (string_bytes c.args.self.now.name)) c.in_ok-sync.ensures.files ∙ c.in_ok-write_marked.ensures.around in
     contents_synced _ _ (g.H.Host.faults c.args.self.now.host) _ _ _ _ _ around (count_marks _ _ c.args.self.now.marks) c.clear-2.ensures _
 
-pub returns-clause-err : goal.returns-clause-err
-returns-clause-err g c = tt
-
 pub returns-clause-cause : goal.returns-clause-cause
 returns-clause-cause g c = disk_went _ _ _ c.write_marked.ensures.cause.later c.sync.ensures.cause.later
 

@@ -7,12 +7,6 @@ use Rattle.board.specs.Guards.{Halts, Proceeds}
 use Rattle.board.proofs.Runs.{begun_none, begun_scratch, not_begun}
 use Rattle.board.proofs.board.Board.begin.Goals as goal
 
-pub returns-in_err-fallen-clause-protected : goal.returns-in_err-fallen-clause-protected
-returns-in_err-fallen-clause-protected g c = refl
-
-pub returns-in_err-fallen-clause-count : goal.returns-in_err-fallen-clause-count
-returns-in_err-fallen-clause-count g c = refl
-
 pub returns-in_err-fallen-clause-unmoved : goal.returns-in_err-fallen-clause-unmoved
 returns-in_err-fallen-clause-unmoved g c = on_err c.from_residual.result _ refl
 
@@ -37,15 +31,6 @@ returns-in_err-fallen-clause-stops g c = on_err c.from_residual.result _ (not_be
 pub returns-in_err-fallen-clause-ends : goal.returns-in_err-fallen-clause-ends
 returns-in_err-fallen-clause-ends g c = (not_begun (g.F.MemWords.words c.args.self.now.mem) c.args.self.now.scratch c.protected_words-size.result c.args.self.now.guard c.begin.new.self (IsErr c.from_residual.result) c.from_residual.ensures.0 c.protected_words-size.ensures c.in_err-fallen.ensures.err).ends
 
-pub returns-in_default-clause-protected : goal.returns-in_default-clause-protected
-returns-in_default-clause-protected g c = refl
-
-pub returns-in_default-clause-count : goal.returns-in_default-clause-count
-returns-in_default-clause-count g c = refl
-
-pub returns-in_default-clause-unmoved : goal.returns-in_default-clause-unmoved
-returns-in_default-clause-unmoved g c = tt
-
 pub returns-in_default-clause-open_page : goal.returns-in_default-clause-open_page
 returns-in_default-clause-open_page g c =
     let step : Proceeds c.protected_words-size.result None c.args.self.now.guard c.begin.new.self = rw c.in_default.is at c.in_ok-fallen.ensures.ok in
@@ -69,9 +54,6 @@ returns-in_default-clause-made g c =
     let step : Proceeds c.protected_words-size.result None c.args.self.now.guard c.begin.new.self = rw c.in_default.is at c.in_ok-fallen.ensures.ok in
     (begun_none (g.F.MemWords.words c.args.self.now.mem) c.args.self.now.scratch c.protected_words-size.result c.args.self.now.guard c.begin.new.self _ (λ s. true_false (sym s)) c.protected_words-size.ensures c.args.self.now.open_within step).made
 
-pub returns-in_default-clause-stops : goal.returns-in_default-clause-stops
-returns-in_default-clause-stops g c = tt
-
 pub returns-in_default-clause-ends : goal.returns-in_default-clause-ends
 returns-in_default-clause-ends g c =
     let step : Proceeds c.protected_words-size.result None c.args.self.now.guard c.begin.new.self = rw c.in_default.is at c.in_ok-fallen.ensures.ok in
@@ -86,9 +68,6 @@ pub returns-in-Some-clause-count : goal.returns-in-Some-clause-count
 returns-in-Some-clause-count g c =
     let step : Proceeds c.protected_words-size.result (Some c.in-Some.fallen) c.args.self.now.guard c.begin.new.self = rw c.in-Some.is at c.in_ok-fallen.ensures.ok in
     (begun_scratch (g.F.MemWords.words c.args.self.now.mem) (g.F.MemWords.words c.store.new.self) c.args.self.now.scratch c.protected_words-size.result c.in-Some.fallen c.args.self.now.guard c.begin.new.self _ (λ s. true_false (sym s)) c.store.ensures c.protected_words-size.ensures step).count
-
-pub returns-in-Some-clause-unmoved : goal.returns-in-Some-clause-unmoved
-returns-in-Some-clause-unmoved g c = tt
 
 pub returns-in-Some-clause-open_page : goal.returns-in-Some-clause-open_page
 returns-in-Some-clause-open_page g c =
@@ -112,9 +91,6 @@ pub returns-in-Some-clause-made : goal.returns-in-Some-clause-made
 returns-in-Some-clause-made g c =
     let step : Proceeds c.protected_words-size.result (Some c.in-Some.fallen) c.args.self.now.guard c.begin.new.self = rw c.in-Some.is at c.in_ok-fallen.ensures.ok in
     (begun_scratch (g.F.MemWords.words c.args.self.now.mem) (g.F.MemWords.words c.store.new.self) c.args.self.now.scratch c.protected_words-size.result c.in-Some.fallen c.args.self.now.guard c.begin.new.self _ (λ s. true_false (sym s)) c.store.ensures c.protected_words-size.ensures step).made
-
-pub returns-in-Some-clause-stops : goal.returns-in-Some-clause-stops
-returns-in-Some-clause-stops g c = tt
 
 pub returns-in-Some-clause-ends : goal.returns-in-Some-clause-ends
 returns-in-Some-clause-ends g c =

@@ -78,24 +78,6 @@ returns-in_err-begin-clause-sooner g c = IfOk-from_err c.from_residual.result _ 
 pub returns-in_err-begin-clause-running : goal.returns-in_err-begin-clause-running
 returns-in_err-begin-clause-running g c = IfOk-from_err c.from_residual.result _ c.from_residual.ensures.0
 
-pub returns-in_err-begin-clause-count : goal.returns-in_err-begin-clause-count
-returns-in_err-begin-clause-count g c = c.in_err-begin.ensures.count
-
-pub returns-in_err-begin-clause-disk : goal.returns-in_err-begin-clause-disk
-returns-in_err-begin-clause-disk g c = c.in_err-begin.ensures.disk
-
-pub returns-in_err-begin-clause-scratch : goal.returns-in_err-begin-clause-scratch
-returns-in_err-begin-clause-scratch g c = c.in_err-begin.ensures.scratch
-
-pub returns-in_err-begin-clause-protected : goal.returns-in_err-begin-clause-protected
-returns-in_err-begin-clause-protected g c = c.in_err-begin.ensures.protected
-
-pub returns-in_err-begin-clause-open_page : goal.returns-in_err-begin-clause-open_page
-returns-in_err-begin-clause-open_page g c = c.in_err-begin.ensures.open_page
-
-pub returns-in_err-begin-clause-falls : goal.returns-in_err-begin-clause-falls
-returns-in_err-begin-clause-falls g c = c.in_err-begin.ensures.falls
-
 pub returns-in_err-begin-clause-stops : goal.returns-in_err-begin-clause-stops
 returns-in_err-begin-clause-stops g c = on_err c.from_residual.result _ c.in_err-begin.ensures.stops
 
@@ -104,27 +86,6 @@ returns-in_err-begin-clause-unmoved g c = on_err c.from_residual.result _ c.in_e
 
 pub returns-in_err-begin-clause-ends : goal.returns-in_err-begin-clause-ends
 returns-in_err-begin-clause-ends g c = ends_by _ _ _ _ (λ s. refl) (λ w. c.from_residual.ensures.0) c.in_err-begin.ensures.ends
-
-pub returns-clause-count : goal.returns-clause-count
-returns-clause-count g c = c.in_ok-begin.ensures.count
-
-pub returns-clause-disk : goal.returns-clause-disk
-returns-clause-disk g c = c.in_ok-begin.ensures.disk
-
-pub returns-clause-scratch : goal.returns-clause-scratch
-returns-clause-scratch g c = c.in_ok-begin.ensures.scratch
-
-pub returns-clause-protected : goal.returns-clause-protected
-returns-clause-protected g c = c.in_ok-begin.ensures.protected
-
-pub returns-clause-halts : goal.returns-clause-halts
-returns-clause-halts g c = tt
-
-pub returns-clause-stops : goal.returns-clause-stops
-returns-clause-stops g c = tt
-
-pub returns-clause-unmoved : goal.returns-clause-unmoved
-returns-clause-unmoved g c = tt
 
 pub returns-clause-open_page : goal.returns-clause-open_page
 returns-clause-open_page g c = ap page_of c.pass-further.ensures.counted ∙ c.in_ok-begin.ensures.open_page

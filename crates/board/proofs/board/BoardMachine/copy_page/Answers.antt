@@ -275,9 +275,6 @@ returns-clause-ends g c =
     let i = c.loop-done.invariant in
     record { steps = i.steps; told = λ s. absurd (true_false (sym s)); runs = λ n. i.runs }
 
-pub returns-clause-falls : goal.returns-clause-falls
-returns-clause-falls g c = c.loop-done.invariant.falls
-
 pub returns-clause-frozen : goal.returns-clause-frozen
 returns-clause-frozen g c = λ s. (c.loop-done.invariant.frozen s).1
 
@@ -286,9 +283,6 @@ returns-clause-halted g c =
     let i = c.loop-done.invariant in
     let all : c.loop-done.done ≡ 512 = omega (arith, i.within, c.loop-done-test.false) in
     λ s. absurd (omega (arith, all, (i.frozen s).0))
-
-pub returns-clause-rest : goal.returns-clause-rest
-returns-clause-rest g c = c.loop-done.invariant.rest
 
 pub returns-clause-scratch : goal.returns-clause-scratch
 returns-clause-scratch g c =
@@ -346,12 +340,6 @@ copy_words-requires-clause-from g c = omega (arith, page_in_memory (g.F.MemWords
 
 pub copy_words-requires-clause-to : goal.copy_words-requires-clause-to
 copy_words-requires-clause-to g c = omega (arith, c.args.self.now.open_within c.args.to.0 c.requires.to, c.in_ok-n.ensures.count, c.loop-done.invariant.count, c.in_ok-n.ensures.some.1, c.loop-done-test.true)
-
-pub returns-clause-cut : goal.returns-clause-cut
-returns-clause-cut g c = tt
-
-pub returns-clause-front : goal.returns-clause-front
-returns-clause-front g c = tt
 
 pub copy_words-requires-clause-apart : goal.copy_words-requires-clause-apart
 copy_words-requires-clause-apart g c = pages_apart c.args.from.0 c.args.to.0 c.loop-done.done c.in_ok-n.n c.requires.two (omega (arith, c.in_ok-n.ensures.some.1, c.loop-done-test.true))

@@ -61,9 +61,6 @@ returns-in_err-begin-clause-ends g c =
     let told = err_from_is_err_and c.from_residual.result c.from_residual.ensures.1 in
     rw told.1 c.in_err-begin.ensures.ends
 
-pub returns-in_err-begin-clause-falls : goal.returns-in_err-begin-clause-falls
-returns-in_err-begin-clause-falls g c = c.in_err-begin.ensures.falls
-
 pub returns-in_err-begin-clause-halted : goal.returns-in_err-begin-clause-halted
 returns-in_err-begin-clause-halted g c =
     let told = err_from_is_err_and c.from_residual.result c.from_residual.ensures.1 in

@@ -224,9 +224,6 @@ returns-clause-ends g c =
     let i = c.loop-done.invariant in
     record { steps = i.steps; told = λ s. absurd (true_false (sym s)); runs = λ n. i.runs }
 
-pub returns-clause-falls : goal.returns-clause-falls
-returns-clause-falls g c = c.loop-done.invariant.falls
-
 pub returns-clause-frozen : goal.returns-clause-frozen
 returns-clause-frozen g c = λ s. (c.loop-done.invariant.frozen s).1
 
@@ -235,9 +232,6 @@ returns-clause-halted g c =
     let i = c.loop-done.invariant in
     let all : c.loop-done.done ≡ length c.args.from.now = omega (arith, i.within, c.loop-done-test.false) in
     λ s less. absurd (omega (arith, all, (i.frozen s).0, less))
-
-pub returns-clause-rest : goal.returns-clause-rest
-returns-clause-rest g c = c.loop-done.invariant.rest
 
 pub returns-clause-stored : goal.returns-clause-stored
 returns-clause-stored g c =
@@ -285,9 +279,3 @@ overflow_add-next g c = omega (arith, c.loop-done-test.true, c.in_ok-n.ensures.s
 
 pub overflow_add-at : goal.overflow_add-at
 overflow_add-at g c = omega (arith, c.args.self.now.open_within (c.args.at.0 / 512) c.requires.page, g.met.F.MemWords.small c.args.self.now.mem, c.loop-done-test.true, c.requires.within)
-
-pub returns-clause-cut : goal.returns-clause-cut
-returns-clause-cut g c = tt
-
-pub returns-clause-front : goal.returns-clause-front
-returns-clause-front g c = tt

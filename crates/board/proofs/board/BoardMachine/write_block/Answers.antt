@@ -330,23 +330,5 @@ returns-in-Err-clause-writes_block g c =
     let same : disk c.write.new.self ≡ with_written (disk old.disk) c.args.b.0 c.in-Err.ensures.writes.0 (disk c.write.new.self).faults = subst (λ (d : DiskContents). disk c.write.new.self ≡ with_written d c.args.b.0 c.in-Err.ensures.writes.0 (disk c.write.new.self).faults) (ap disk c.begin.ensures.disk) c.in-Err.ensures.writes.2 in
     made_writes (words old.mem) (words mid.mem) old.scratch mid.scratch (disk old.disk) (disk c.write.new.self) old.guard mid.guard c.args.b.0 c.in-Err.ensures.writes.0 c.begin.ensures.protected c.begin.ensures.open_page same
 
-pub returns-else-running-clause-protected : goal.returns-else-running-clause-protected
-returns-else-running-clause-protected g c = tt
-
-pub returns-else-running-clause-written : goal.returns-else-running-clause-written
-returns-else-running-clause-written g c = tt
-
-pub returns-then-running-clause-protected : goal.returns-then-running-clause-protected
-returns-then-running-clause-protected g c = tt
-
-pub returns-then-running-clause-written : goal.returns-then-running-clause-written
-returns-then-running-clause-written g c = tt
-
-pub returns-in-Err-clause-protected : goal.returns-in-Err-clause-protected
-returns-in-Err-clause-protected g c = tt
-
-pub returns-in-Err-clause-written : goal.returns-in-Err-clause-written
-returns-in-Err-clause-written g c = tt
-
 pub frame-requires : goal.frame-requires
 frame-requires g c = omega (arith, page_in_memory (g.F.MemWords.words c.args.self.now.mem) c.args.self.now.scratch c.args.from.0 c.args.self.now.whole c.requires.from, c.begin.ensures.count)

@@ -1,4 +1,4 @@
-use Rattle.std.proofs.Common.{◌≡◌, ◌∙◌, ◌+◌, ap, sym, subst, length, replicate, refl}
+use Rattle.std.proofs.Common.{◌≡◌, ◌∙◌, ◌+◌, ap, sym, subst, length, replicate}
 use Rattle.std.proofs.lemmas.List.{length-replicate, with_items_is}
 use Rattle.std.specs.Vec.{with_items}
 use Rattle.frame_pool.specs.Frames.{blank, block_at, pinned_at}
@@ -49,9 +49,6 @@ returns-clause-pins_in c =
     let read = c.deref_mut.ensures.value ∙ c.in_ok-all.ensures.items_if_clones_equal (λ y e. e) in
     let is : (with_items all new).items ≡ new = with_items_is all new (same.size ∙ c.deref_mut.ensures.len) in
     count_none _ c.args.frames (λ k. ap (λ fs. pinned_at fs k) is ∙ (free_frames (c.args.frames + 1) c.deref_mut.result.now new read same).pins k)
-
-pub returns-clause-frames : goal.returns-clause-frames
-returns-clause-frames c = refl
 
 pub returns-clause-blocks : goal.returns-clause-blocks
 returns-clause-blocks c = sym c.in_ok-table.table.ok.0 ∙ c.in_ok-table.ensures.len

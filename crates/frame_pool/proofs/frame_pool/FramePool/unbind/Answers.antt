@@ -1,4 +1,4 @@
-use Rattle.std.proofs.Common.{◌≡◌, ◌∙◌, ap, sym, subst, arith, slice_set, length, refl}
+use Rattle.std.proofs.Common.{◌≡◌, ◌∙◌, ap, sym, subst, arith, slice_set, length}
 use Rattle.std.proofs.lemmas.List.{with_items_is, length-set}
 use Rattle.std.specs.Vec.{with_items}
 use Rattle.frame_pool.specs.Frames.{block_at, order_at, pinned_at}
@@ -65,9 +65,6 @@ move_first-requires-clause-ring c = ring_same c.args.self.now.frames.items c.set
 pub move_first-requires-clause-once : goal.move_first-requires-clause-once
 move_first-requires-clause-once c = once_same c.args.self.now.frames.items c.set_block.new.frames c.args.self.now.count (subst (λ old. KeepsLinks old c.set_block.new.frames) c.as_mut_slice-frames.ensures.value c.set_block.ensures.links) c.args.self.now.once
 
-pub move_first-requires-clause-within : goal.move_first-requires-clause-within
-move_first-requires-clause-within c = c.requires.within
-
 pub returns-clause-unbound : goal.returns-clause-unbound
 returns-clause-unbound c = back_block c.args.self.now.frames _ c.move_first.new.frames c.as_mut_slice-frames.ensures.value (c.move_first.ensures.same.size ∙ c.set_block.ensures.links.size) c.args.k _ (c.move_first.ensures.same.blocks c.args.k ∙ c.set_block.ensures.block)
 
@@ -76,9 +73,6 @@ returns-clause-others c = λ j ne. same_block c.args.self.now.frames _ c.move_fi
 
 pub returns-clause-pins : goal.returns-clause-pins
 returns-clause-pins c = λ j. same_pin c.args.self.now.frames _ c.move_first.new.frames c.as_mut_slice-frames.ensures.value (c.move_first.ensures.same.size ∙ c.set_block.ensures.links.size) j (c.move_first.ensures.same.pins j ∙ c.set_block.ensures.pins j)
-
-pub returns-clause-frames : goal.returns-clause-frames
-returns-clause-frames c = refl
 
 pub returns-clause-blocks : goal.returns-clause-blocks
 returns-clause-blocks c = length-set c.args.self.now.table.items c.in-Some.b.0 0

@@ -1,4 +1,4 @@
-use Rattle.std.proofs.Common.{◌≡◌, ◌≢◌, ℕ, false, ◌∙◌, ap, sym, subst, refl}
+use Rattle.std.proofs.Common.{◌≡◌, ◌≢◌, ℕ, false, ◌∙◌, ap, sym, subst}
 use Rattle.std.proofs.lemmas.List.{with_items_is}
 use Rattle.std.specs.Vec.{with_items}
 use Rattle.frame_pool.specs.Frames.{block_at, order_at, pinned_at}
@@ -59,9 +59,3 @@ returns-clause-others c = λ j ne. same_pin c.args.self.now.frames _ c.set_pin.n
 
 pub returns-clause-held : goal.returns-clause-held
 returns-clause-held c = λ j. same_block c.args.self.now.frames _ c.set_pin.new.frames c.deref_mut.ensures.value c.set_pin.ensures.links.size j (c.set_pin.ensures.blocks j)
-
-pub returns-clause-frames : goal.returns-clause-frames
-returns-clause-frames c = refl
-
-pub returns-clause-blocks : goal.returns-clause-blocks
-returns-clause-blocks c = refl

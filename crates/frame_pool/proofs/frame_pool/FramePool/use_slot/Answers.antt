@@ -1,4 +1,4 @@
-use Rattle.std.proofs.Common.{◌≡◌, ◌∙◌, ap, sym, subst, length, refl}
+use Rattle.std.proofs.Common.{◌≡◌, ◌∙◌, ap, sym, subst, length}
 use Rattle.std.proofs.lemmas.List.{with_items_is}
 use Rattle.std.specs.Vec.{with_items}
 use Rattle.frame_pool.specs.Frames.{order_at, pinned_at}
@@ -37,9 +37,6 @@ move_last-requires-clause-ring c = subst (λ fs. IsRing fs c.args.self.now.count
 pub move_last-requires-clause-once : goal.move_last-requires-clause-once
 move_last-requires-clause-once c = subst (λ fs. HasEachOnce (order_at fs c.args.self.now.count) c.args.self.now.count) (sym c.deref_mut.ensures.value) c.args.self.now.once
 
-pub move_last-requires-clause-within : goal.move_last-requires-clause-within
-move_last-requires-clause-within c = c.requires.within
-
 pub returns-clause-held : goal.returns-clause-held
 returns-clause-held c = λ j. same_block c.args.self.now.frames _ c.move_last.new.frames c.deref_mut.ensures.value c.move_last.ensures.same.size j (c.move_last.ensures.same.blocks j)
 
@@ -48,9 +45,3 @@ returns-clause-pins c = λ j. same_pin c.args.self.now.frames _ c.move_last.new.
 
 pub returns-clause-order : goal.returns-clause-order
 returns-clause-order c = back_order c.args.self.now.frames _ c.move_last.new.frames c.deref_mut.ensures.value c.move_last.ensures.same.size c.args.self.now.count _ (c.move_last.ensures.ring.order ∙ ap (λ fs. used_last c.args.k (order_at fs c.args.self.now.count)) c.deref_mut.ensures.value)
-
-pub returns-clause-frames : goal.returns-clause-frames
-returns-clause-frames c = refl
-
-pub returns-clause-blocks : goal.returns-clause-blocks
-returns-clause-blocks c = refl

@@ -1,4 +1,3 @@
-use Rattle.std.proofs.Common.{refl}
 use Rattle.line_loop.proofs.Leaving.{all_refused, all_sent, no_ok, none_held, sent_nothing}
 use Rattle.line_loop.proofs.waiting.Waiting.release.Goals as goal
 
@@ -7,9 +6,6 @@ returns-then-self-eq0-clause-ok g c = sent_nothing (none_held c.self.inside.held
 
 pub returns-then-self-eq0-clause-none : goal.returns-then-self-eq0-clause-none
 returns-then-self-eq0-clause-none g c = none_held c.self.inside.held c.self.inside.room.items c.self.view_is c.if-self-eq0.true
-
-pub returns-then-self-eq0-clause-err : goal.returns-then-self-eq0-clause-err
-returns-then-self-eq0-clause-err g c = tt
 
 pub returns-in_err-send-clause-ok : goal.returns-in_err-send-clause-ok
 returns-in_err-send-clause-ok g c = no_ok c.from_residual.result _ c.from_residual.ensures.0
@@ -22,9 +18,3 @@ returns-in_err-send-clause-err g c = all_refused c.from_residual.result c.self.i
 
 pub returns-clause-ok : goal.returns-clause-ok
 returns-clause-ok g c = all_sent c.self.inside.held c.self.inside.room.items c.in_ok-send.ensures.ok c.deref.ensures.value c.self.view_is
-
-pub returns-clause-none : goal.returns-clause-none
-returns-clause-none g c = refl
-
-pub returns-clause-err : goal.returns-clause-err
-returns-clause-err g c = tt

@@ -18,9 +18,6 @@ returns-clause-free g c = λ j less gone.
     let full : c.is_full.result ≡ true = grind (arith, c.if-not-is_full.false) in
     absurd (true_false (sym (c.is_full.ensures full j less) ∙ gone))
 
-pub returns-clause-words : goal.returns-clause-words
-returns-clause-words g c = c.send_next.ensures.nears.words
-
 pub returns-clause-order : goal.returns-clause-order
 returns-clause-order g c = ap order_of c.send_next.ensures.nears.pool
 
@@ -33,15 +30,6 @@ returns-then-is_far_ahead-clause-passes g c = passes_none (g.M.Machine.contents 
 pub returns-then-not-is_full-clause-passes : goal.returns-then-not-is_full-clause-passes
 returns-then-not-is_full-clause-passes g c = passes_none (g.M.Machine.contents c.args.self.now.machine) (g.M.Machine.run c.args.self.now.machine) c.args.self.now.tables
 
-pub is_full-requires-clause-sound : goal.is_full-requires-clause-sound
-is_full-requires-clause-sound g c = c.requires.sound
-
-pub is_full-requires-clause-victim : goal.is_full-requires-clause-victim
-is_full-requires-clause-victim g c = c.victim-k.ensures
-
-pub send_next-requires-clause-sound : goal.send_next-requires-clause-sound
-send_next-requires-clause-sound g c = c.requires.sound
-
 pub returns-clause-drops : goal.returns-clause-drops
 returns-clause-drops g c = drops_near (g.M.Machine.contents c.args.self.now.machine) (g.M.Machine.contents c.send_next.new.m) _ _ c.send_next.ensures.nears
 
@@ -50,15 +38,6 @@ returns-clause-looks g c = looks_near (g.M.Machine.contents c.args.self.now.mach
 
 pub returns-clause-ends : goal.returns-clause-ends
 returns-clause-ends g c = halts_of (g.M.Machine.contents c.args.self.now.machine) (g.M.Machine.contents c.send_next.new.m) (g.M.Machine.run c.args.self.now.machine) (g.M.Machine.run c.send_next.new.m) _ c.send_next.ensures.nears.lasts c.send_next.ensures.ends
-
-pub returns-clause-one_write : goal.returns-clause-one_write
-returns-clause-one_write g c = c.send_next.ensures.one_write
-
-pub returns-clause-pends : goal.returns-clause-pends
-returns-clause-pends g c = c.send_next.ensures.pends
-
-pub returns-clause-sound : goal.returns-clause-sound
-returns-clause-sound g c = c.send_next.ensures.sound
 
 pub returns-then-has_all_frames-clause-drops : goal.returns-then-has_all_frames-clause-drops
 returns-then-has_all_frames-clause-drops g c = record { kept = λ b e. (e, refl) }
@@ -75,17 +54,8 @@ returns-then-has_all_frames-clause-free g c = λ k less gone. still_refl (g.M.Ma
 pub returns-then-has_all_frames-clause-one_write : goal.returns-then-has_all_frames-clause-one_write
 returns-then-has_all_frames-clause-one_write g c = one_none (g.M.Machine.contents c.args.self.now.machine).writes (g.M.Machine.contents c.args.self.now.machine).writes refl
 
-pub returns-then-has_all_frames-clause-order : goal.returns-then-has_all_frames-clause-order
-returns-then-has_all_frames-clause-order g c = refl
-
-pub returns-then-has_all_frames-clause-words : goal.returns-then-has_all_frames-clause-words
-returns-then-has_all_frames-clause-words g c = refl
-
 pub returns-then-has_all_frames-clause-pends : goal.returns-then-has_all_frames-clause-pends
 returns-then-has_all_frames-clause-pends g c = λ b e. e
-
-pub returns-then-has_all_frames-clause-sound : goal.returns-then-has_all_frames-clause-sound
-returns-then-has_all_frames-clause-sound g c = c.requires.sound
 
 pub returns-then-is_far_ahead-clause-drops : goal.returns-then-is_far_ahead-clause-drops
 returns-then-is_far_ahead-clause-drops g c = record { kept = λ b e. (e, refl) }
@@ -102,17 +72,8 @@ returns-then-is_far_ahead-clause-free g c = λ k less gone. still_refl (g.M.Mach
 pub returns-then-is_far_ahead-clause-one_write : goal.returns-then-is_far_ahead-clause-one_write
 returns-then-is_far_ahead-clause-one_write g c = one_none (g.M.Machine.contents c.args.self.now.machine).writes (g.M.Machine.contents c.args.self.now.machine).writes refl
 
-pub returns-then-is_far_ahead-clause-order : goal.returns-then-is_far_ahead-clause-order
-returns-then-is_far_ahead-clause-order g c = refl
-
-pub returns-then-is_far_ahead-clause-words : goal.returns-then-is_far_ahead-clause-words
-returns-then-is_far_ahead-clause-words g c = refl
-
 pub returns-then-is_far_ahead-clause-pends : goal.returns-then-is_far_ahead-clause-pends
 returns-then-is_far_ahead-clause-pends g c = λ b e. e
-
-pub returns-then-is_far_ahead-clause-sound : goal.returns-then-is_far_ahead-clause-sound
-returns-then-is_far_ahead-clause-sound g c = c.requires.sound
 
 pub returns-then-not-is_full-clause-drops : goal.returns-then-not-is_full-clause-drops
 returns-then-not-is_full-clause-drops g c = record { kept = λ b e. (e, refl) }
@@ -129,14 +90,5 @@ returns-then-not-is_full-clause-free g c = λ k less gone. still_refl (g.M.Machi
 pub returns-then-not-is_full-clause-one_write : goal.returns-then-not-is_full-clause-one_write
 returns-then-not-is_full-clause-one_write g c = one_none (g.M.Machine.contents c.args.self.now.machine).writes (g.M.Machine.contents c.args.self.now.machine).writes refl
 
-pub returns-then-not-is_full-clause-order : goal.returns-then-not-is_full-clause-order
-returns-then-not-is_full-clause-order g c = refl
-
-pub returns-then-not-is_full-clause-words : goal.returns-then-not-is_full-clause-words
-returns-then-not-is_full-clause-words g c = refl
-
 pub returns-then-not-is_full-clause-pends : goal.returns-then-not-is_full-clause-pends
 returns-then-not-is_full-clause-pends g c = λ b e. e
-
-pub returns-then-not-is_full-clause-sound : goal.returns-then-not-is_full-clause-sound
-returns-then-not-is_full-clause-sound g c = c.requires.sound

@@ -27,32 +27,11 @@ returns-in_err-k-clause-passes g c = passes_of c.args.b.0 (g.M.Machine.contents 
 pub returns-clause-passes : goal.returns-clause-passes
 returns-clause-passes g c = passes_of c.args.b.0 (g.M.Machine.contents c.args.self.now.machine) (g.M.Machine.contents c.fetch.new.m) (g.M.Machine.run c.args.self.now.machine) (g.M.Machine.run c.fetch.new.m) c.args.self.now.tables c.fetch.new.t c.fetch.ensures.keeps c.fetch.ensures.lasts c.fetch.ensures.ends.steps c.fetch.ensures.writes c.fetch.ensures.touches c.fetch.ensures.tables
 
-pub fetch-requires-clause-sound : goal.fetch-requires-clause-sound
-fetch-requires-clause-sound g c = c.requires.sound
-
-pub returns-in_err-k-clause-sound : goal.returns-in_err-k-clause-sound
-returns-in_err-k-clause-sound g c = c.fetch.ensures.sound
-
-pub returns-in_err-k-clause-writes : goal.returns-in_err-k-clause-writes
-returns-in_err-k-clause-writes g c = c.fetch.ensures.writes
-
-pub returns-in_err-k-clause-leaves : goal.returns-in_err-k-clause-leaves
-returns-in_err-k-clause-leaves g c = c.fetch.ensures.leaves
-
 pub returns-in_err-k-clause-looks : goal.returns-in_err-k-clause-looks
 returns-in_err-k-clause-looks g c = looks_keeps _ _ c.fetch.ensures.keeps c.fetch.ensures.lasts
 
 pub returns-in_err-k-clause-caches : goal.returns-in_err-k-clause-caches
 returns-in_err-k-clause-caches g c = caches_adds c.args.b.0 _ (g.M.Machine.contents c.args.self.now.machine) (g.M.Machine.contents c.fetch.new.m) c.fetch.ensures.adds
-
-pub returns-clause-sound : goal.returns-clause-sound
-returns-clause-sound g c = c.fetch.ensures.sound
-
-pub returns-clause-writes : goal.returns-clause-writes
-returns-clause-writes g c = c.fetch.ensures.writes
-
-pub returns-clause-leaves : goal.returns-clause-leaves
-returns-clause-leaves g c = c.fetch.ensures.leaves
 
 pub returns-clause-looks : goal.returns-clause-looks
 returns-clause-looks g c = looks_keeps _ _ c.fetch.ensures.keeps c.fetch.ensures.lasts
@@ -60,35 +39,14 @@ returns-clause-looks g c = looks_keeps _ _ c.fetch.ensures.keeps c.fetch.ensures
 pub returns-clause-caches : goal.returns-clause-caches
 returns-clause-caches g c = caches_adds c.args.b.0 _ (g.M.Machine.contents c.args.self.now.machine) (g.M.Machine.contents c.fetch.new.m) c.fetch.ensures.adds
 
-pub returns-clause-used : goal.returns-clause-used
-returns-clause-used g c = c.in_ok-k.ensures.used
-
 pub returns-clause-sure : goal.returns-clause-sure
 returns-clause-sure g c fault touched = absurd (never _ _ fault)
-
-pub returns-in_err-k-clause-hit : goal.returns-in_err-k-clause-hit
-returns-in_err-k-clause-hit g c = c.fetch.ensures.hit
-
-pub returns-clause-hit : goal.returns-clause-hit
-returns-clause-hit g c = c.fetch.ensures.hit
-
-pub returns-in_err-k-clause-marks : goal.returns-in_err-k-clause-marks
-returns-in_err-k-clause-marks g c = c.fetch.ensures.marks
-
-pub returns-clause-marks : goal.returns-clause-marks
-returns-clause-marks g c = c.fetch.ensures.marks
 
 pub returns-in_err-k-clause-failed : goal.returns-in_err-k-clause-failed
 returns-in_err-k-clause-failed g c q = c.in_err-k.ensures.failed refl
 
 pub returns-clause-failed : goal.returns-clause-failed
 returns-clause-failed g c q = absurd (true_false (sym q))
-
-pub fetch-requires-clause-block : goal.fetch-requires-clause-block
-fetch-requires-clause-block g c = c.requires.place.block
-
-pub page_of-page-requires-clause-sound : goal.page_of-page-requires-clause-sound
-page_of-page-requires-clause-sound g c = c.fetch.ensures.sound
 
 pub returns-clause-ends : goal.returns-clause-ends
 returns-clause-ends g c = ends_came c.in_ok-k.k _ (g.M.Machine.contents c.args.self.now.machine) (g.M.Machine.contents c.fetch.new.m) (g.M.Machine.run c.args.self.now.machine) (g.M.Machine.run c.fetch.new.m) c.fetch.ensures.lasts c.in_ok-k.ensures.ends
@@ -97,9 +55,6 @@ pub returns-in_err-k-clause-ends : goal.returns-in_err-k-clause-ends
 returns-in_err-k-clause-ends g c =
     let p = err_from_is_err_and c.from_residual.result c.from_residual.ensures.1 in
     ends_handed (g.M.Machine.contents c.args.self.now.machine) (g.M.Machine.contents c.fetch.new.m) (g.M.Machine.run c.args.self.now.machine) (g.M.Machine.run c.fetch.new.m) _ _ (p.1 ∙ ap Err p.2) c.fetch.ensures.lasts c.in_err-k.ensures.fault c.in_err-k.ensures.ends
-
-pub fetch-requires-clause-name : goal.fetch-requires-clause-name
-fetch-requires-clause-name g c = c.requires.name.in_range
 
 pub returns-in_err-k-clause-value : goal.returns-in_err-k-clause-value
 returns-in_err-k-clause-value g c = not_ok _ c.from_residual.result c.from_residual.ensures.0

@@ -28,23 +28,8 @@ returns-clause-drops g c = drops_named (g.M.Machine.contents c.args.self.now.mac
 pub returns-clause-sound : goal.returns-clause-sound
 returns-clause-sound g c = sound_begun _ _ _ _ _ _ c.requires.sound c.begin.ensures.ends.steps.scratch_count (c.begin.ensures.coherent _) c.begin.ensures.rest c.begin.ensures.closed c.begin.ensures.names c.in_ok-begin.ensures.opened.bare c.clear_list.ensures.rest c.clear_list.ensures.none (λ k. ap (λ (p : FramePool). is_pinned p k) c.clear_list.ensures.pool ∙ shut_unpinned _ k _ _ c.requires.sound (gate_shut (g.M.Machine.contents c.args.self.now.machine).words c.requires.idle))
 
-pub returns-in_err-begin-clause-order : goal.returns-in_err-begin-clause-order
-returns-in_err-begin-clause-order g c = refl
-
 pub returns-clause-order : goal.returns-clause-order
 returns-clause-order g c = ap order_of c.clear_list.ensures.pool
-
-pub returns-in_err-begin-clause-entries : goal.returns-in_err-begin-clause-entries
-returns-in_err-begin-clause-entries g c = c.begin.ensures.names
-
-pub returns-clause-entries : goal.returns-clause-entries
-returns-clause-entries g c = c.begin.ensures.names
-
-pub begin-requires-clause-coherent : goal.begin-requires-clause-coherent
-begin-requires-clause-coherent g c = c.requires.sound.coherent
-
-pub begin-requires-clause-closed : goal.begin-requires-clause-closed
-begin-requires-clause-closed g c = c.requires.sound.closed
 
 pub returns-clause-goes : goal.returns-clause-goes
 returns-clause-goes g c = goes_rest (g.M.Machine.contents c.args.self.now.machine) (g.M.Machine.contents c.begin.new.m) c.args.self.now.tables (g.M.Machine.run c.args.self.now.machine) (g.M.Machine.run c.begin.new.m) c.begin.ensures.lasts c.begin.ensures.ends.steps c.begin.ensures.names.frames c.begin.ensures.rest
@@ -75,15 +60,6 @@ returns-clause-looks g c = record { count = c.begin.ensures.lasts.blocks; words 
 
 pub returns-in_err-begin-clause-looks : goal.returns-in_err-begin-clause-looks
 returns-in_err-begin-clause-looks g c = looks_keeps (g.M.Machine.contents c.args.self.now.machine) (g.M.Machine.contents c.begin.new.m) c.in_err-begin.ensures.cut c.begin.ensures.lasts
-
-pub returns-in_err-begin-clause-standing : goal.returns-in_err-begin-clause-standing
-returns-in_err-begin-clause-standing g c = c.in_err-begin.ensures.cut.stands
-
-pub listed-requires-clause-most : goal.listed-requires-clause-most
-listed-requires-clause-most g c = c.requires.sound.most
-
-pub listed-requires-clause-room : goal.listed-requires-clause-room
-listed-requires-clause-room g c = c.requires.sound.room
 
 pub begin-requires-clause-shut : goal.begin-requires-clause-shut
 begin-requires-clause-shut g c = gate_shut (g.M.Machine.contents c.args.self.now.machine).words c.requires.idle

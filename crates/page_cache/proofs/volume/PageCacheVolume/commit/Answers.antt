@@ -14,24 +14,6 @@ returns-clause-drops g c = drops_named (g.M.Machine.contents c.args.self.now.mac
 pub returns-clause-sound : goal.returns-clause-sound
 returns-clause-sound g c = sound_shut _ _ _ _ _ _ c.requires.sound c.commit.ensures.ends.steps.scratch_count (c.commit.ensures.coherent _) c.commit.ensures.rest c.commit.ensures.closed c.commit.ensures.names (same_loses _ _ (shadows_past _ _ c.commit.ensures.entries)) (shut_zero (g.M.Machine.contents c.commit.new.m).words c.in_ok-commit.ensures.committed.gate) c.unpin_all.ensures.rest c.unpin_all.ensures.list.shadows c.unpin_all.ensures.list.shadowed c.unpin_all.ensures.unpinned
 
-pub returns-in_err-commit-clause-order : goal.returns-in_err-commit-clause-order
-returns-in_err-commit-clause-order g c = refl
-
-pub returns-clause-order : goal.returns-clause-order
-returns-clause-order g c = c.unpin_all.ensures.order
-
-pub returns-in_err-commit-clause-entries : goal.returns-in_err-commit-clause-entries
-returns-in_err-commit-clause-entries g c = c.commit.ensures.names
-
-pub returns-clause-entries : goal.returns-clause-entries
-returns-clause-entries g c = c.commit.ensures.names
-
-pub commit-requires-clause-coherent : goal.commit-requires-clause-coherent
-commit-requires-clause-coherent g c = c.requires.sound.coherent
-
-pub commit-requires-clause-closed : goal.commit-requires-clause-closed
-commit-requires-clause-closed g c = c.requires.sound.closed
-
 pub returns-clause-goes : goal.returns-clause-goes
 returns-clause-goes g c = goes_rest (g.M.Machine.contents c.args.self.now.machine) (g.M.Machine.contents c.commit.new.m) c.args.self.now.tables (g.M.Machine.run c.args.self.now.machine) (g.M.Machine.run c.commit.new.m) c.commit.ensures.lasts c.commit.ensures.ends.steps c.commit.ensures.names.frames c.commit.ensures.rest
 
@@ -76,12 +58,6 @@ returns-in_err-commit-clause-stopped g c = inl (ap (λ (m : Contents). stands m)
 
 pub returns-in_err-commit-clause-sound : goal.returns-in_err-commit-clause-sound
 returns-in_err-commit-clause-sound g c = sound_same _ _ (g.M.Machine.contents c.args.self.now.machine) (g.M.Machine.contents c.commit.new.m) _ c.requires.sound c.commit.ensures.ends.steps.scratch_count (c.commit.ensures.coherent _) c.commit.ensures.rest c.commit.ensures.closed c.commit.ensures.names (shadows_past _ _ c.commit.ensures.entries) (ap (λ (m : Contents). gate_of m.words) c.in_err-commit.ensures.same)
-
-pub unpin_all-requires-clause-most : goal.unpin_all-requires-clause-most
-unpin_all-requires-clause-most g c = c.requires.sound.most
-
-pub unpin_all-requires-clause-room : goal.unpin_all-requires-clause-room
-unpin_all-requires-clause-room g c = c.requires.sound.room
 
 pub unpin_all-requires-clause-within : goal.unpin_all-requires-clause-within
 unpin_all-requires-clause-within g c = list_within _ (g.M.Machine.contents c.args.self.now.machine) c.args.self.now.tables c.requires.sound

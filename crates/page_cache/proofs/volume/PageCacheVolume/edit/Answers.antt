@@ -40,35 +40,14 @@ returns-in_err-put_edit-clause-entries g c = names_entries _ _ c.put_edit.ensure
 pub returns-clause-entries : goal.returns-clause-entries
 returns-clause-entries g c = names_entries _ _ c.put_edit.ensures.entries
 
-pub returns-in_err-put_edit-clause-order : goal.returns-in_err-put_edit-clause-order
-returns-in_err-put_edit-clause-order g c = refl
-
-pub returns-clause-order : goal.returns-clause-order
-returns-clause-order g c = refl
-
-pub put_edit-requires-clause-coherent : goal.put_edit-requires-clause-coherent
-put_edit-requires-clause-coherent g c = c.requires.sound.coherent
-
-pub put_edit-requires-clause-closed : goal.put_edit-requires-clause-closed
-put_edit-requires-clause-closed g c = c.requires.sound.closed
-
 pub put_edit-requires-clause-valid : goal.put_edit-requires-clause-valid
 put_edit-requires-clause-valid g c = (entry_bound _ c.args.b.0 c.in-Some.k (g.M.Machine.contents c.args.self.now.machine) c.args.self.now.tables c.requires.sound c.in-Some.ensures.some.0 c.in-Some.ensures.some.1).0
 
 pub put_edit-requires-clause-block : goal.put_edit-requires-clause-block
 put_edit-requires-clause-block g c = (entry_bound _ c.args.b.0 c.in-Some.k (g.M.Machine.contents c.args.self.now.machine) c.args.self.now.tables c.requires.sound c.in-Some.ensures.some.0 c.in-Some.ensures.some.1).1
 
-pub put_edit-requires-clause-word : goal.put_edit-requires-clause-word
-put_edit-requires-clause-word g c = c.requires.place.word
-
-pub returns-clause-ok : goal.returns-clause-ok
-returns-clause-ok g c = c.in_ok-put_edit.ensures.puts.reading
-
 pub returns-clause-either : goal.returns-clause-either
 returns-clause-either g c = inr c.in_ok-put_edit.ensures.puts.reading
-
-pub returns-clause-count : goal.returns-clause-count
-returns-clause-count g c = c.put_edit.ensures.lasts.blocks
 
 pub returns-clause-ends : goal.returns-clause-ends
 returns-clause-ends g c = halts_of (g.M.Machine.contents c.args.self.now.machine) (g.M.Machine.contents c.put_edit.new.m) (g.M.Machine.run c.args.self.now.machine) (g.M.Machine.run c.put_edit.new.m) _ c.put_edit.ensures.lasts c.in_ok-put_edit.ensures.ends
@@ -84,9 +63,6 @@ returns-clause-still g c = still_rest (g.M.Machine.contents c.args.self.now.mach
 
 pub returns-in_err-put_edit-clause-either : goal.returns-in_err-put_edit-clause-either
 returns-in_err-put_edit-clause-either g c = inl (ap (λ (m : Contents). reads m) c.in_err-put_edit.ensures.same)
-
-pub returns-in_err-put_edit-clause-count : goal.returns-in_err-put_edit-clause-count
-returns-in_err-put_edit-clause-count g c = c.put_edit.ensures.lasts.blocks
 
 pub returns-in_err-put_edit-clause-standing : goal.returns-in_err-put_edit-clause-standing
 returns-in_err-put_edit-clause-standing g c = ap (λ (m : Contents). stands m) c.in_err-put_edit.ensures.same

@@ -79,24 +79,6 @@ returns-clause-entries g c = names_entries _ _ c.put_frame_run.ensures.entries
 pub returns-clause-order : goal.returns-clause-order
 returns-clause-order g c = ap (λ (t : CacheTables). order_of t.pool) c.put_frame_run.ensures.tables
 
-pub put_frame_run-requires-clause-sound : goal.put_frame_run-requires-clause-sound
-put_frame_run-requires-clause-sound g c = c.requires.sound
-
-pub put_frame_run-requires-clause-within : goal.put_frame_run-requires-clause-within
-put_frame_run-requires-clause-within g c = c.requires.place.within
-
-pub returns-clause-ok : goal.returns-clause-ok
-returns-clause-ok g c = c.in_ok-put_frame_run.ensures.rewrites.reading
-
-pub returns-clause-count : goal.returns-clause-count
-returns-clause-count g c = c.put_frame_run.ensures.lasts.blocks
-
-pub returns-clause-sound : goal.returns-clause-sound
-returns-clause-sound g c = c.put_frame_run.ensures.sound
-
-pub returns-clause-still : goal.returns-clause-still
-returns-clause-still g c = c.put_frame_run.ensures.still
-
 pub returns-clause-ends : goal.returns-clause-ends
 returns-clause-ends g c = halts_of (g.M.Machine.contents c.args.self.now.machine) (g.M.Machine.contents c.put_frame_run.new.m) (g.M.Machine.run c.args.self.now.machine) (g.M.Machine.run c.put_frame_run.new.m) _ c.put_frame_run.ensures.lasts c.in_ok-put_frame_run.ensures.ends
 
@@ -105,15 +87,6 @@ returns-in_err-put_frame_run-clause-ok g c = not_ok _ c.from_residual.result c.f
 
 pub returns-in_err-put_frame_run-clause-update : goal.returns-in_err-put_frame_run-clause-update
 returns-in_err-put_frame_run-clause-update g c = not_ok _ c.from_residual.result c.from_residual.ensures.0
-
-pub returns-in_err-put_frame_run-clause-count : goal.returns-in_err-put_frame_run-clause-count
-returns-in_err-put_frame_run-clause-count g c = c.put_frame_run.ensures.lasts.blocks
-
-pub returns-in_err-put_frame_run-clause-sound : goal.returns-in_err-put_frame_run-clause-sound
-returns-in_err-put_frame_run-clause-sound g c = c.put_frame_run.ensures.sound
-
-pub returns-in_err-put_frame_run-clause-still : goal.returns-in_err-put_frame_run-clause-still
-returns-in_err-put_frame_run-clause-still g c = c.put_frame_run.ensures.still
 
 pub returns-in_err-put_frame_run-clause-ends : goal.returns-in_err-put_frame_run-clause-ends
 returns-in_err-put_frame_run-clause-ends g c = halts_err (g.M.Machine.contents c.args.self.now.machine) (g.M.Machine.contents c.put_frame_run.new.m) (g.M.Machine.run c.args.self.now.machine) (g.M.Machine.run c.put_frame_run.new.m) _ _ c.from_residual.ensures.0 refl c.put_frame_run.ensures.lasts c.in_err-put_frame_run.ensures.ends

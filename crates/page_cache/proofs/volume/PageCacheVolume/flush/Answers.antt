@@ -14,12 +14,6 @@ use Rattle.cached_pages.proofs.Rooms.{firm_keeps, looks_keeps}
 use Rattle.cached_pages.proofs.StoreCalls.{drops_narrows}
 use Rattle.page_cache.proofs.Failures.{ends_handed}
 
-pub flush-requires-clause-coherent : goal.flush-requires-clause-coherent
-flush-requires-clause-coherent g c = c.requires.sound.coherent
-
-pub flush-requires-clause-closed : goal.flush-requires-clause-closed
-flush-requires-clause-closed g c = c.requires.sound.closed
-
 pub flush-requires-clause-shut : goal.flush-requires-clause-shut
 flush-requires-clause-shut g c = shut_by _ c.requires.idle
 
@@ -28,12 +22,6 @@ returns-in_err-j-clause-sound g c = flushed_sound _ _ (g.M.Machine.contents c.ar
 
 pub returns-clause-sound : goal.returns-clause-sound
 returns-clause-sound g c = flushed_sound _ _ (g.M.Machine.contents c.args.self.now.machine) (g.M.Machine.contents c.flush.new.m) _ _ _ c.requires.sound refl c.lose_all.ensures (shut_by _ c.requires.idle) c.flush.ensures.keeps c.flush.ensures.lasts c.flush.ensures.ends.steps.scratch_count c.flush.ensures.closed c.flush.ensures.held
-
-pub returns-in_err-j-clause-order : goal.returns-in_err-j-clause-order
-returns-in_err-j-clause-order g c = refl
-
-pub returns-clause-order : goal.returns-clause-order
-returns-clause-order g c = refl
 
 pub returns-in_err-j-clause-stay : goal.returns-in_err-j-clause-stay
 returns-in_err-j-clause-stay g c = stay_held _ _ (c.flush.ensures.keeps.header 2 (omega arith)) c.flush.ensures.held
@@ -52,9 +40,6 @@ returns-clause-unmarked g c fault = absurd (never _ _ fault)
 pub returns-clause-looks : goal.returns-clause-looks
 returns-clause-looks g c = looks_keeps (g.M.Machine.contents c.args.self.now.machine) (g.M.Machine.contents c.flush.new.m) c.flush.ensures.keeps c.flush.ensures.lasts
 
-pub returns-clause-standing : goal.returns-clause-standing
-returns-clause-standing g c = c.flush.ensures.keeps.stands
-
 pub returns-clause-firm : goal.returns-clause-firm
 returns-clause-firm g c = firm_keeps (g.M.Machine.contents c.args.self.now.machine) (g.M.Machine.contents c.flush.new.m) c.args.self.now.tables c.args.self.now.tables c.flush.ensures.keeps (tables_refl c.args.self.now.tables)
 
@@ -70,9 +55,6 @@ returns-clause-runs g c = runs_of (g.M.Machine.contents c.args.self.now.machine)
 pub returns-in_err-j-clause-looks : goal.returns-in_err-j-clause-looks
 returns-in_err-j-clause-looks g c = looks_keeps (g.M.Machine.contents c.args.self.now.machine) (g.M.Machine.contents c.flush.new.m) c.flush.ensures.keeps c.flush.ensures.lasts
 
-pub returns-in_err-j-clause-standing : goal.returns-in_err-j-clause-standing
-returns-in_err-j-clause-standing g c = c.flush.ensures.keeps.stands
-
 pub returns-in_err-j-clause-firm : goal.returns-in_err-j-clause-firm
 returns-in_err-j-clause-firm g c = firm_keeps (g.M.Machine.contents c.args.self.now.machine) (g.M.Machine.contents c.flush.new.m) c.args.self.now.tables c.args.self.now.tables c.flush.ensures.keeps (tables_refl c.args.self.now.tables)
 
@@ -87,9 +69,6 @@ returns-in_err-j-clause-runs g c = runs_of (g.M.Machine.contents c.args.self.now
 
 pub returns-clause-ends : goal.returns-clause-ends
 returns-clause-ends g c = ends_of (g.M.Machine.contents c.args.self.now.machine) (g.M.Machine.contents c.flush.new.m) (g.M.Machine.run c.args.self.now.machine) (g.M.Machine.run c.flush.new.m) _ c.flush.ensures.lasts (λ q. absurd (never _ _ q)) c.in_ok-j.ensures.ends
-
-pub returns-clause-flushed : goal.returns-clause-flushed
-returns-clause-flushed g c = c.in_ok-j.ensures.flushed
 
 pub returns-in_err-j-clause-ends : goal.returns-in_err-j-clause-ends
 returns-in_err-j-clause-ends g c =

@@ -68,12 +68,6 @@ returns-in_err-drop_frame-clause-goes g c = (settled c.args.b.0 (g.M.Machine.con
 pub returns-in_err-drop_frame-clause-idle : goal.returns-in_err-drop_frame-clause-idle
 returns-in_err-drop_frame-clause-idle g c = (settled c.args.b.0 (g.M.Machine.contents c.args.self.now.machine) (g.M.Machine.contents c.drop_frame.new.m) (g.M.Machine.run c.args.self.now.machine) (g.M.Machine.run c.drop_frame.new.m) c.args.self.now.tables c.drop_frame.new.t c.requires.idle c.drop_frame.ensures.frees (marks_then c.args.b.0 _ c.args.self.now.tables c.mark.new.self c.drop_frame.new.t c.mark.ensures.marks c.drop_frame.ensures.tables) c.drop_frame.ensures.lasts c.drop_frame.ensures.ends.steps (few_still c.args.b.0 _ (g.M.Machine.contents c.args.self.now.machine) (g.M.Machine.contents c.drop_frame.new.m) c.drop_frame.ensures.still)).idle
 
-pub returns-in_err-drop_frame-clause-others : goal.returns-in_err-drop_frame-clause-others
-returns-in_err-drop_frame-clause-others g c = c.drop_frame.ensures.frees.others
-
-pub returns-in_err-drop_frame-clause-count : goal.returns-in_err-drop_frame-clause-count
-returns-in_err-drop_frame-clause-count g c = c.drop_frame.ensures.lasts.blocks
-
 pub returns-in_err-drop_frame-clause-drops : goal.returns-in_err-drop_frame-clause-drops
 returns-in_err-drop_frame-clause-drops g c = drops_narrows (g.M.Machine.contents c.args.self.now.machine) (g.M.Machine.contents c.drop_frame.new.m) c.drop_frame.ensures.narrows
 
@@ -98,12 +92,6 @@ returns-clause-goes g c = (settled c.args.b.0 (g.M.Machine.contents c.args.self.
 pub returns-clause-idle : goal.returns-clause-idle
 returns-clause-idle g c = (settled c.args.b.0 (g.M.Machine.contents c.args.self.now.machine) (g.M.Machine.contents c.drop_frame.new.m) (g.M.Machine.run c.args.self.now.machine) (g.M.Machine.run c.drop_frame.new.m) c.args.self.now.tables c.drop_frame.new.t c.requires.idle c.drop_frame.ensures.frees (marks_then c.args.b.0 _ c.args.self.now.tables c.mark.new.self c.drop_frame.new.t c.mark.ensures.marks c.drop_frame.ensures.tables) c.drop_frame.ensures.lasts c.drop_frame.ensures.ends.steps (few_still c.args.b.0 _ (g.M.Machine.contents c.args.self.now.machine) (g.M.Machine.contents c.drop_frame.new.m) c.drop_frame.ensures.still)).idle
 
-pub returns-clause-others : goal.returns-clause-others
-returns-clause-others g c = c.drop_frame.ensures.frees.others
-
-pub returns-clause-count : goal.returns-clause-count
-returns-clause-count g c = c.drop_frame.ensures.lasts.blocks
-
 pub returns-clause-drops : goal.returns-clause-drops
 returns-clause-drops g c = drops_narrows (g.M.Machine.contents c.args.self.now.machine) (g.M.Machine.contents c.drop_frame.new.m) c.drop_frame.ensures.narrows
 
@@ -125,12 +113,6 @@ returns-clause-order g c q = absurd (true_false (sym q))
 pub returns-in_default-clause-stay : goal.returns-in_default-clause-stay
 returns-in_default-clause-stay g c = others_stay c.args.b.0 _ _ (stay_hit (g.M.Machine.contents c.args.self.now.machine) (g.M.Machine.contents c.args.self.now.machine) refl)
 
-pub returns-in_err-drop_frame-clause-stay : goal.returns-in_err-drop_frame-clause-stay
-returns-in_err-drop_frame-clause-stay g c = c.drop_frame.ensures.stay
-
-pub returns-clause-stay : goal.returns-clause-stay
-returns-clause-stay g c = c.drop_frame.ensures.stay
-
 pub returns-in_default-clause-kept : goal.returns-in_default-clause-kept
 returns-in_default-clause-kept g c q = absurd (true_false (sym q))
 
@@ -143,24 +125,6 @@ returns-clause-kept g c q = absurd (true_false (sym q))
 pub returns-in_default-clause-marks : goal.returns-in_default-clause-marks
 returns-in_default-clause-marks g c = marks_refl None _
 
-pub returns-in_err-drop_frame-clause-marks : goal.returns-in_err-drop_frame-clause-marks
-returns-in_err-drop_frame-clause-marks g c = c.drop_frame.ensures.marks
-
-pub returns-clause-marks : goal.returns-clause-marks
-returns-clause-marks g c = c.drop_frame.ensures.marks
-
-pub returns-clause-sound : goal.returns-clause-sound
-returns-clause-sound g c = c.drop_frame.ensures.sound
-
-pub returns-clause-still : goal.returns-clause-still
-returns-clause-still g c = c.drop_frame.ensures.still
-
-pub returns-in_default-clause-count : goal.returns-in_default-clause-count
-returns-in_default-clause-count g c = refl
-
-pub returns-in_default-clause-idle : goal.returns-in_default-clause-idle
-returns-in_default-clause-idle g c = c.requires.idle
-
 pub returns-in_default-clause-ends : goal.returns-in_default-clause-ends
 returns-in_default-clause-ends g c = halts_none tt _
 
@@ -169,12 +133,6 @@ returns-in_err-drop_frame-clause-ok g c = not_ok _ c.from_residual.result c.from
 
 pub returns-in_err-drop_frame-clause-freed : goal.returns-in_err-drop_frame-clause-freed
 returns-in_err-drop_frame-clause-freed g c = not_ok _ c.from_residual.result c.from_residual.ensures.0
-
-pub returns-in_err-drop_frame-clause-sound : goal.returns-in_err-drop_frame-clause-sound
-returns-in_err-drop_frame-clause-sound g c = c.drop_frame.ensures.sound
-
-pub returns-in_err-drop_frame-clause-still : goal.returns-in_err-drop_frame-clause-still
-returns-in_err-drop_frame-clause-still g c = c.drop_frame.ensures.still
 
 pub returns-in_err-drop_frame-clause-ends : goal.returns-in_err-drop_frame-clause-ends
 returns-in_err-drop_frame-clause-ends g c = halts_err (g.M.Machine.contents c.args.self.now.machine) (g.M.Machine.contents c.drop_frame.new.m) (g.M.Machine.run c.args.self.now.machine) (g.M.Machine.run c.drop_frame.new.m) _ _ c.from_residual.ensures.0 refl c.drop_frame.ensures.lasts c.in_err-drop_frame.ensures.ends

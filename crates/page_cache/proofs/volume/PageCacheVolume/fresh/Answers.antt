@@ -22,20 +22,11 @@ use Rattle.rio_base.proofs.MachineRules.{never}
 pub make_room-requires-clause-uncached : goal.make_room-requires-clause-uncached
 make_room-requires-clause-uncached g c = cached_none _ c.requires.uncached
 
-pub bring_zeros-requires-clause-entry : goal.bring_zeros-requires-clause-entry
-bring_zeros-requires-clause-entry g c = c.in_ok-k.ensures.room.0
-
-pub bring_zeros-requires-clause-invalid : goal.bring_zeros-requires-clause-invalid
-bring_zeros-requires-clause-invalid g c = c.in_ok-k.ensures.room.1
-
 pub bring_zeros-requires-clause-block : goal.bring_zeros-requires-clause-block
 bring_zeros-requires-clause-block g c = subst (λ n. c.args.b.0 < n) (sym c.make_room.ensures.lasts.blocks) c.requires.place
 
 pub bring_zeros-requires-clause-uncached : goal.bring_zeros-requires-clause-uncached
 bring_zeros-requires-clause-uncached g c = none_still c.args.b.0 _ _ c.make_room.ensures.narrows (cached_none _ c.requires.uncached)
-
-pub bring_zeros-requires-clause-name : goal.bring_zeros-requires-clause-name
-bring_zeros-requires-clause-name g c = c.requires.name.in_range
 
 pub returns-in_err-k-clause-standing : goal.returns-in_err-k-clause-standing
 returns-in_err-k-clause-standing g c = (settled c.args.b.0 (g.M.Machine.contents c.args.self.now.machine) (g.M.Machine.contents c.make_room.new.m) (g.M.Machine.run c.args.self.now.machine) (g.M.Machine.run c.make_room.new.m) c.args.self.now.tables c.make_room.new.t c.requires.idle (frees_keeps c.args.b.0 (g.M.Machine.contents c.args.self.now.machine) (g.M.Machine.contents c.make_room.new.m) c.make_room.ensures.keeps) (same_marks c.args.b.0 c.args.self.now.tables c.make_room.new.t c.make_room.ensures.tables) c.make_room.ensures.lasts c.make_room.ensures.ends.steps c.make_room.ensures.writes).standing
@@ -51,9 +42,6 @@ returns-in_err-k-clause-idle g c = (settled c.args.b.0 (g.M.Machine.contents c.a
 
 pub returns-in_err-k-clause-others : goal.returns-in_err-k-clause-others
 returns-in_err-k-clause-others g c = (frees_keeps c.args.b.0 (g.M.Machine.contents c.args.self.now.machine) (g.M.Machine.contents c.make_room.new.m) c.make_room.ensures.keeps).others
-
-pub returns-in_err-k-clause-count : goal.returns-in_err-k-clause-count
-returns-in_err-k-clause-count g c = c.make_room.ensures.lasts.blocks
 
 pub returns-in_err-k-clause-caches : goal.returns-in_err-k-clause-caches
 returns-in_err-k-clause-caches g c = caches_adds c.args.b.0 c.args.name (g.M.Machine.contents c.args.self.now.machine) (g.M.Machine.contents c.make_room.new.m) (adds_narrows c.args.b.0 c.args.name _ _ c.make_room.ensures.narrows)
@@ -150,29 +138,11 @@ returns-in_err-bring_zeros-clause-failed g c q = failed_missed c.args.b.0 _ c.ar
 pub returns-clause-failed : goal.returns-clause-failed
 returns-clause-failed g c q = absurd (true_false (sym q))
 
-pub make_room-requires-clause-sound : goal.make_room-requires-clause-sound
-make_room-requires-clause-sound g c = c.requires.sound
-
-pub make_room-requires-clause-block : goal.make_room-requires-clause-block
-make_room-requires-clause-block g c = c.requires.place
-
-pub bring_zeros-requires-clause-sound : goal.bring_zeros-requires-clause-sound
-bring_zeros-requires-clause-sound g c = c.make_room.ensures.sound
-
 pub returns-in_err-k-clause-ok : goal.returns-in_err-k-clause-ok
 returns-in_err-k-clause-ok g c = not_ok _ c.from_residual.result c.from_residual.ensures.0
 
 pub returns-in_err-k-clause-used : goal.returns-in_err-k-clause-used
 returns-in_err-k-clause-used g c = not_ok _ c.from_residual.result c.from_residual.ensures.0
-
-pub returns-in_err-k-clause-sound : goal.returns-in_err-k-clause-sound
-returns-in_err-k-clause-sound g c = c.make_room.ensures.sound
-
-pub returns-in_err-k-clause-writes : goal.returns-in_err-k-clause-writes
-returns-in_err-k-clause-writes g c = c.make_room.ensures.writes
-
-pub returns-in_err-k-clause-leaves : goal.returns-in_err-k-clause-leaves
-returns-in_err-k-clause-leaves g c = c.make_room.ensures.leaves
 
 pub returns-in_err-k-clause-ends : goal.returns-in_err-k-clause-ends
 returns-in_err-k-clause-ends g c =
@@ -184,6 +154,3 @@ returns-in_err-bring_zeros-clause-ok g c = not_ok _ c.from_residual-in_err-bring
 
 pub returns-in_err-bring_zeros-clause-used : goal.returns-in_err-bring_zeros-clause-used
 returns-in_err-bring_zeros-clause-used g c = not_ok _ c.from_residual-in_err-bring_zeros.result c.from_residual-in_err-bring_zeros.ensures.0
-
-pub returns-in_err-bring_zeros-clause-sound : goal.returns-in_err-bring_zeros-clause-sound
-returns-in_err-bring_zeros-clause-sound g c = c.bring_zeros.ensures.sound

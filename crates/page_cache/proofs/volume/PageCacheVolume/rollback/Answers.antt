@@ -27,24 +27,6 @@ returns-clause-drops g c = drops_named (g.M.Machine.contents c.args.self.now.mac
 pub returns-clause-sound : goal.returns-clause-sound
 returns-clause-sound g c = sound_shut _ _ _ _ _ _ c.requires.sound c.undo.ensures.ends.steps.scratch_count (c.undo.ensures.coherent _) c.undo.ensures.rest c.undo.ensures.closed c.undo.ensures.names (same_loses _ _ c.undo.ensures.shadows) (shut_zero (g.M.Machine.contents c.undo.new.m).words c.in_ok-undo.ensures.undone.gate) c.unpin_all.ensures.rest c.unpin_all.ensures.list.shadows c.unpin_all.ensures.list.shadowed c.unpin_all.ensures.unpinned
 
-pub returns-in_err-undo-clause-order : goal.returns-in_err-undo-clause-order
-returns-in_err-undo-clause-order g c = refl
-
-pub returns-clause-order : goal.returns-clause-order
-returns-clause-order g c = c.unpin_all.ensures.order
-
-pub returns-in_err-undo-clause-entries : goal.returns-in_err-undo-clause-entries
-returns-in_err-undo-clause-entries g c = c.undo.ensures.names
-
-pub returns-clause-entries : goal.returns-clause-entries
-returns-clause-entries g c = c.undo.ensures.names
-
-pub undo-requires-clause-coherent : goal.undo-requires-clause-coherent
-undo-requires-clause-coherent g c = c.requires.sound.coherent
-
-pub undo-requires-clause-closed : goal.undo-requires-clause-closed
-undo-requires-clause-closed g c = c.requires.sound.closed
-
 pub returns-clause-goes : goal.returns-clause-goes
 returns-clause-goes g c = goes_rest (g.M.Machine.contents c.args.self.now.machine) (g.M.Machine.contents c.undo.new.m) c.args.self.now.tables (g.M.Machine.run c.args.self.now.machine) (g.M.Machine.run c.undo.new.m) c.undo.ensures.lasts c.undo.ensures.ends.steps c.undo.ensures.names.frames c.undo.ensures.rest
 
@@ -69,12 +51,6 @@ returns-in_err-undo-clause-firm g c = firm_loose (g.M.Machine.contents c.args.se
 pub returns-clause-firm : goal.returns-clause-firm
 returns-clause-firm g c = firm_by_tables (g.M.Machine.contents c.args.self.now.machine) (g.M.Machine.contents c.undo.new.m) c.args.self.now.tables c.unpin_all.new.t c.undo.ensures.firm c.unpin_all.ensures.list
 
-pub returns-clause-count : goal.returns-clause-count
-returns-clause-count g c = c.undo.ensures.lasts.blocks
-
-pub returns-clause-standing : goal.returns-clause-standing
-returns-clause-standing g c = c.undo.ensures.standing
-
 pub returns-clause-ok : goal.returns-clause-ok
 returns-clause-ok g c = (c.in_ok-undo.ensures.undone.reads, idle_zero (g.M.Machine.contents c.undo.new.m).words c.in_ok-undo.ensures.undone.gate)
 
@@ -83,24 +59,6 @@ returns-clause-untouched g c = λ b w none.
     let words = (g.M.Machine.contents c.args.self.now.machine).words in
     let is = gate_open words c.requires.in_update in
     c.undo.ensures.untouched b w (λ k f. untouched_bare words b k is none f) ∙ sym (untouched_stands (g.M.Machine.contents c.args.self.now.machine) b w is none)
-
-pub returns-in_err-undo-clause-count : goal.returns-in_err-undo-clause-count
-returns-in_err-undo-clause-count g c = c.undo.ensures.lasts.blocks
-
-pub returns-in_err-undo-clause-standing : goal.returns-in_err-undo-clause-standing
-returns-in_err-undo-clause-standing g c = c.undo.ensures.standing
-
-pub listed-requires-clause-most : goal.listed-requires-clause-most
-listed-requires-clause-most g c = c.requires.sound.most
-
-pub listed-requires-clause-room : goal.listed-requires-clause-room
-listed-requires-clause-room g c = c.requires.sound.room
-
-pub unpin_all-requires-clause-most : goal.unpin_all-requires-clause-most
-unpin_all-requires-clause-most g c = c.requires.sound.most
-
-pub unpin_all-requires-clause-room : goal.unpin_all-requires-clause-room
-unpin_all-requires-clause-room g c = c.requires.sound.room
 
 pub unpin_all-requires-clause-within : goal.unpin_all-requires-clause-within
 unpin_all-requires-clause-within g c = list_within _ (g.M.Machine.contents c.args.self.now.machine) c.args.self.now.tables c.requires.sound

@@ -111,12 +111,6 @@ returns-in-Err-clause-idle g c = (settles c.args.b.0 _ (g.M.Machine.contents c.a
 pub returns-in-Err-clause-ends : goal.returns-in-Err-clause-ends
 returns-in-Err-clause-ends g c = ends_stopped (g.M.Machine.contents c.args.self.now.machine) (g.M.Machine.contents c.put_frame_run.new.m) (g.M.Machine.run c.args.self.now.machine) (g.M.Machine.run c.ready.new.m) (g.M.Machine.run c.put_frame_run.new.m) _ _ (Err Stopped) refl (never _ _) refl (lasts_trans (g.M.Machine.contents c.args.self.now.machine) (g.M.Machine.contents c.ready.new.m) (g.M.Machine.contents c.put_frame_run.new.m) c.ready.ensures.lasts c.put_frame_run.ensures.lasts) c.in-Ok.ensures.ends c.in-Err.ensures.ends
 
-pub returns-in-Err-Fault-clause-marks : goal.returns-in-Err-Fault-clause-marks
-returns-in-Err-Fault-clause-marks g c = c.ready.ensures.marks
-
-pub returns-in-Err-Stopped-clause-marks : goal.returns-in-Err-Stopped-clause-marks
-returns-in-Err-Stopped-clause-marks g c = c.ready.ensures.marks
-
 pub returns-in-Ok-put_frame_run-clause-marks : goal.returns-in-Ok-put_frame_run-clause-marks
 returns-in-Ok-put_frame_run-clause-marks g c = marks_trans (Some c.args.b.0) _ _ _ c.ready.ensures.marks (marks_any (Some c.args.b.0) _ _ c.put_frame_run.ensures.marks)
 
@@ -156,125 +150,23 @@ returns-then-is_empty-clause-stay g c cached = stay_hit (g.M.Machine.contents c.
 pub returns-then-is_empty-clause-failed : goal.returns-then-is_empty-clause-failed
 returns-then-is_empty-clause-failed g c q = absurd (true_false (sym q))
 
-pub ready-requires-clause-sound : goal.ready-requires-clause-sound
-ready-requires-clause-sound g c = c.requires.sound
-
-pub ready-requires-clause-block : goal.ready-requires-clause-block
-ready-requires-clause-block g c = c.requires.place.block
-
-pub put_frame_run-requires-clause-sound : goal.put_frame_run-requires-clause-sound
-put_frame_run-requires-clause-sound g c = c.ready.ensures.sound
-
-pub put_frame_run-requires-clause-found : goal.put_frame_run-requires-clause-found
-put_frame_run-requires-clause-found g c = c.in-Ok.ensures.found
-
-pub put_frame_run-requires-clause-dirty : goal.put_frame_run-requires-clause-dirty
-put_frame_run-requires-clause-dirty g c = c.in-Ok.ensures.dirty
-
-pub put_frame_run-requires-clause-within : goal.put_frame_run-requires-clause-within
-put_frame_run-requires-clause-within g c = c.requires.place.within
-
-pub returns-in-Err-Fault-clause-count : goal.returns-in-Err-Fault-clause-count
-returns-in-Err-Fault-clause-count g c = c.ready.ensures.lasts.blocks
-
 pub returns-in-Err-Fault-clause-idle : goal.returns-in-Err-Fault-clause-idle
 returns-in-Err-Fault-clause-idle g c = ap (λ n. n == 1) (c.ready.ensures.keeps.header 4 (omega arith)) ∙ c.requires.idle
-
-pub returns-in-Err-Fault-clause-caches : goal.returns-in-Err-Fault-clause-caches
-returns-in-Err-Fault-clause-caches g c = c.ready.ensures.caches
-
-pub returns-in-Err-Fault-clause-leaves : goal.returns-in-Err-Fault-clause-leaves
-returns-in-Err-Fault-clause-leaves g c = c.ready.ensures.leaves
-
-pub returns-in-Err-Fault-clause-sound : goal.returns-in-Err-Fault-clause-sound
-returns-in-Err-Fault-clause-sound g c = c.ready.ensures.sound
-
-pub returns-in-Err-Fault-clause-writes : goal.returns-in-Err-Fault-clause-writes
-returns-in-Err-Fault-clause-writes g c = c.ready.ensures.writes
-
-pub returns-in-Err-Fault-clause-ok : goal.returns-in-Err-Fault-clause-ok
-returns-in-Err-Fault-clause-ok g c = tt
-
-pub returns-in-Err-Fault-clause-named : goal.returns-in-Err-Fault-clause-named
-returns-in-Err-Fault-clause-named g c = tt
-
-pub returns-in-Err-Fault-clause-used : goal.returns-in-Err-Fault-clause-used
-returns-in-Err-Fault-clause-used g c = tt
-
-pub returns-in-Err-Stopped-clause-count : goal.returns-in-Err-Stopped-clause-count
-returns-in-Err-Stopped-clause-count g c = c.ready.ensures.lasts.blocks
 
 pub returns-in-Err-Stopped-clause-idle : goal.returns-in-Err-Stopped-clause-idle
 returns-in-Err-Stopped-clause-idle g c = ap (λ n. n == 1) (c.ready.ensures.keeps.header 4 (omega arith)) ∙ c.requires.idle
 
-pub returns-in-Err-Stopped-clause-caches : goal.returns-in-Err-Stopped-clause-caches
-returns-in-Err-Stopped-clause-caches g c = c.ready.ensures.caches
-
-pub returns-in-Err-Stopped-clause-leaves : goal.returns-in-Err-Stopped-clause-leaves
-returns-in-Err-Stopped-clause-leaves g c = c.ready.ensures.leaves
-
-pub returns-in-Err-Stopped-clause-sound : goal.returns-in-Err-Stopped-clause-sound
-returns-in-Err-Stopped-clause-sound g c = c.ready.ensures.sound
-
-pub returns-in-Err-Stopped-clause-writes : goal.returns-in-Err-Stopped-clause-writes
-returns-in-Err-Stopped-clause-writes g c = c.ready.ensures.writes
-
-pub returns-in-Err-Stopped-clause-ok : goal.returns-in-Err-Stopped-clause-ok
-returns-in-Err-Stopped-clause-ok g c = tt
-
-pub returns-in-Err-Stopped-clause-named : goal.returns-in-Err-Stopped-clause-named
-returns-in-Err-Stopped-clause-named g c = tt
-
-pub returns-in-Err-Stopped-clause-used : goal.returns-in-Err-Stopped-clause-used
-returns-in-Err-Stopped-clause-used g c = tt
-
-pub returns-in-Err-Stopped-clause-fault : goal.returns-in-Err-Stopped-clause-fault
-returns-in-Err-Stopped-clause-fault g c = tt
-
 pub returns-in-Err-clause-count : goal.returns-in-Err-clause-count
 returns-in-Err-clause-count g c = c.put_frame_run.ensures.lasts.blocks ∙ c.ready.ensures.lasts.blocks
-
-pub returns-in-Err-clause-sound : goal.returns-in-Err-clause-sound
-returns-in-Err-clause-sound g c = c.put_frame_run.ensures.sound
-
-pub returns-in-Err-clause-fault : goal.returns-in-Err-clause-fault
-returns-in-Err-clause-fault g c = tt
 
 pub returns-in-Ok-put_frame_run-clause-count : goal.returns-in-Ok-put_frame_run-clause-count
 returns-in-Ok-put_frame_run-clause-count g c = c.put_frame_run.ensures.lasts.blocks ∙ c.ready.ensures.lasts.blocks
 
-pub returns-in-Ok-put_frame_run-clause-sound : goal.returns-in-Ok-put_frame_run-clause-sound
-returns-in-Ok-put_frame_run-clause-sound g c = c.put_frame_run.ensures.sound
-
-pub returns-in-Ok-put_frame_run-clause-fault : goal.returns-in-Ok-put_frame_run-clause-fault
-returns-in-Ok-put_frame_run-clause-fault g c = tt
-
-pub returns-in-Err-clause-ok : goal.returns-in-Err-clause-ok
-returns-in-Err-clause-ok g c = tt
-
-pub returns-in-Err-clause-named : goal.returns-in-Err-clause-named
-returns-in-Err-clause-named g c = tt
-
-pub returns-in-Err-clause-used : goal.returns-in-Err-clause-used
-returns-in-Err-clause-used g c = tt
-
-pub returns-then-is_empty-clause-count : goal.returns-then-is_empty-clause-count
-returns-then-is_empty-clause-count g c = refl
-
-pub returns-then-is_empty-clause-fault : goal.returns-then-is_empty-clause-fault
-returns-then-is_empty-clause-fault g c = tt
-
 pub returns-then-is_empty-clause-firm : goal.returns-then-is_empty-clause-firm
 returns-then-is_empty-clause-firm g c = record { loose = λ b e. e }
 
-pub returns-then-is_empty-clause-idle : goal.returns-then-is_empty-clause-idle
-returns-then-is_empty-clause-idle g c = c.requires.idle
-
 pub returns-then-is_empty-clause-leaves : goal.returns-then-is_empty-clause-leaves
 returns-then-is_empty-clause-leaves g c = leaves_refl c.args.self.now.tables (g.M.Machine.contents c.args.self.now.machine).words
-
-pub returns-then-is_empty-clause-sound : goal.returns-then-is_empty-clause-sound
-returns-then-is_empty-clause-sound g c = c.requires.sound
 
 pub returns-then-is_empty-clause-writes : goal.returns-then-is_empty-clause-writes
 returns-then-is_empty-clause-writes g c = few_still c.args.b.0 c.args.self.now.tables (g.M.Machine.contents c.args.self.now.machine) (g.M.Machine.contents c.args.self.now.machine) (still_refl (g.M.Machine.contents c.args.self.now.machine))
@@ -305,6 +197,3 @@ returns-then-is_empty-clause-used g c = λ some. absurd (none_there _ (sym c.is_
 
 pub returns-in-Err-Stopped-clause-ends : goal.returns-in-Err-Stopped-clause-ends
 returns-in-Err-Stopped-clause-ends g c = ends_halted _ _ _ _ c.in-Err-Stopped.field-0 c.in-Err-Stopped.field-0-is c.ready.ensures.lasts c.in-Err-Stopped.ensures.ends
-
-pub ready-requires-clause-name : goal.ready-requires-clause-name
-ready-requires-clause-name g c = c.requires.name.in_range

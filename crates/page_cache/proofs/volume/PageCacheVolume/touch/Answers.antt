@@ -64,35 +64,14 @@ returns-in_err-shadow_frame-clause-leaves g c = leaves_then _ _ _ _ c.fetch.ensu
 pub returns-clause-leaves : goal.returns-clause-leaves
 returns-clause-leaves g c = leaves_then _ _ _ _ c.fetch.ensures.leaves (stay_found _ _ c.shadow_frame.ensures.pages.found)
 
-pub returns-in_err-k-clause-sound : goal.returns-in_err-k-clause-sound
-returns-in_err-k-clause-sound g c = c.fetch.ensures.sound
-
-pub returns-in_err-k-clause-writes : goal.returns-in_err-k-clause-writes
-returns-in_err-k-clause-writes g c = c.fetch.ensures.writes
-
-pub returns-in_err-k-clause-leaves : goal.returns-in_err-k-clause-leaves
-returns-in_err-k-clause-leaves g c = c.fetch.ensures.leaves
-
 pub returns-in_err-k-clause-looks : goal.returns-in_err-k-clause-looks
 returns-in_err-k-clause-looks g c = looks_keeps _ _ c.fetch.ensures.keeps c.fetch.ensures.lasts
-
-pub returns-in_err-k-clause-standing : goal.returns-in_err-k-clause-standing
-returns-in_err-k-clause-standing g c = c.fetch.ensures.keeps.stands
-
-pub shadow_frame-requires-clause-sound : goal.shadow_frame-requires-clause-sound
-shadow_frame-requires-clause-sound g c = c.fetch.ensures.sound
-
-pub returns-in_err-shadow_frame-clause-sound : goal.returns-in_err-shadow_frame-clause-sound
-returns-in_err-shadow_frame-clause-sound g c = c.shadow_frame.ensures.sound
 
 pub returns-in_err-shadow_frame-clause-looks : goal.returns-in_err-shadow_frame-clause-looks
 returns-in_err-shadow_frame-clause-looks g c = looks_keeps _ _ (keeps_trans _ _ _ c.fetch.ensures.keeps c.shadow_frame.ensures.keeps) (lasts_trans _ _ _ c.fetch.ensures.lasts c.shadow_frame.ensures.lasts)
 
 pub returns-in_err-shadow_frame-clause-standing : goal.returns-in_err-shadow_frame-clause-standing
 returns-in_err-shadow_frame-clause-standing g c = c.shadow_frame.ensures.keeps.stands ∙ c.fetch.ensures.keeps.stands
-
-pub returns-clause-sound : goal.returns-clause-sound
-returns-clause-sound g c = c.shadow_frame.ensures.sound
 
 pub returns-clause-looks : goal.returns-clause-looks
 returns-clause-looks g c = looks_keeps _ _ (keeps_trans _ _ _ c.fetch.ensures.keeps c.shadow_frame.ensures.keeps) (lasts_trans _ _ _ c.fetch.ensures.lasts c.shadow_frame.ensures.lasts)
@@ -143,12 +122,6 @@ returns-in_err-shadow_frame-clause-failed g c q = failed_used c.args.b.0 _ c.arg
 
 pub returns-clause-failed : goal.returns-clause-failed
 returns-clause-failed g c q = absurd (true_false (sym q))
-
-pub fetch-requires-clause-sound : goal.fetch-requires-clause-sound
-fetch-requires-clause-sound g c = c.requires.sound
-
-pub fetch-requires-clause-block : goal.fetch-requires-clause-block
-fetch-requires-clause-block g c = c.requires.place
 
 pub shadow_frame-requires-clause-updating : goal.shadow_frame-requires-clause-updating
 shadow_frame-requires-clause-updating g c = c.fetch.ensures.keeps.header 4 (omega arith) ∙ gate_open (g.M.Machine.contents c.args.self.now.machine).words c.requires.in_update

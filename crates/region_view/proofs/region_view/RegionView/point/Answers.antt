@@ -5,15 +5,6 @@ use Rattle.region_view.proofs.RegionStood.{few_bytes, on_region}
 use Rattle.region_view.proofs.UsedInodes.{leaves_inode}
 use Rattle.region_view.proofs.region_view.RegionView.point.Goals as goal
 
-pub read_inode-requires-clause-sound : goal.read_inode-requires-clause-sound
-read_inode-requires-clause-sound g c = c.requires.sound
-
-pub read_inode-requires-clause-shape : goal.read_inode-requires-clause-shape
-read_inode-requires-clause-shape g c = c.requires.ready.order.has_shape
-
-pub read_inode-requires-clause-ino : goal.read_inode-requires-clause-ino
-read_inode-requires-clause-ino g c = c.requires.ino
-
 pub read_inode-requires-clause-kind : goal.read_inode-requires-clause-kind
 read_inode-requires-clause-kind g c = c.requires.ready.order.mapped.laid.kinds.each _ c.requires.ino
 
@@ -50,46 +41,16 @@ returns-in_err-inode-clause-err g c = on_err c.from_residual.result _ (refl, ref
 pub returns-in_err-inode-clause-kept : goal.returns-in_err-inode-clause-kept
 returns-in_err-inode-clause-kept g c = on_err c.from_residual.result _ refl
 
-pub returns-in_err-inode-clause-shape : goal.returns-in_err-inode-clause-shape
-returns-in_err-inode-clause-shape g c = refl
-
-pub returns-in_err-inode-clause-words : goal.returns-in_err-inode-clause-words
-returns-in_err-inode-clause-words g c = c.read_inode.ensures.looks.words
-
-pub returns-in_err-inode-clause-passes : goal.returns-in_err-inode-clause-passes
-returns-in_err-inode-clause-passes g c = c.read_inode.ensures.passes
-
 pub returns-in_err-inode-clause-goes : goal.returns-in_err-inode-clause-goes
 returns-in_err-inode-clause-goes g c = (g.met.V.Volume.passes_keeps _ _ c.read_inode.ensures.passes).goes
-
-pub returns-in_err-inode-clause-sound : goal.returns-in_err-inode-clause-sound
-returns-in_err-inode-clause-sound g c = c.read_inode.ensures.sound
 
 pub returns-in_err-inode-clause-ends : goal.returns-in_err-inode-clause-ends
 returns-in_err-inode-clause-ends g c =
     let p = err_from_is_err_and c.from_residual.result c.from_residual.ensures.1 in
     ends_vol _ _ c.read_inode.result c.from_residual.result _ p.0 c.in_err-inode.was p.1 p.2 c.read_inode.ensures.ends
 
-pub returns-clause-err : goal.returns-clause-err
-returns-clause-err g c = tt
-
-pub returns-clause-kept : goal.returns-clause-kept
-returns-clause-kept g c = tt
-
-pub returns-clause-shape : goal.returns-clause-shape
-returns-clause-shape g c = refl
-
-pub returns-clause-words : goal.returns-clause-words
-returns-clause-words g c = c.read_inode.ensures.looks.words
-
-pub returns-clause-passes : goal.returns-clause-passes
-returns-clause-passes g c = c.read_inode.ensures.passes
-
 pub returns-clause-goes : goal.returns-clause-goes
 returns-clause-goes g c = (g.met.V.Volume.passes_keeps _ _ c.read_inode.ensures.passes).goes
-
-pub returns-clause-sound : goal.returns-clause-sound
-returns-clause-sound g c = c.read_inode.ensures.sound
 
 pub returns-clause-ends : goal.returns-clause-ends
 returns-clause-ends g c = ends_vol_ok _ _ _ c.in_ok-inode.ensures.ends.later c.in_ok-inode.ensures.ends.cause

@@ -6,18 +6,6 @@ use Rattle.registry.proofs.Exits.{ends_none, ok_then}
 use Rattle.registry.proofs.Views.{hand_read}
 use Rattle.registry.proofs.cover_view.CoverView.fetch.Goals as goal
 
-pub has-requires-clause-sound : goal.has-requires-clause-sound
-has-requires-clause-sound g c = c.requires.sound
-
-pub has-requires-clause-block : goal.has-requires-clause-block
-has-requires-clause-block g c = c.requires.block
-
-pub read-requires-clause-sound : goal.read-requires-clause-sound
-read-requires-clause-sound g c = c.requires.sound
-
-pub read-requires-clause-block : goal.read-requires-clause-block
-read-requires-clause-block g c = c.requires.block
-
 pub returns-then-has-clause-hand : goal.returns-then-has-clause-hand
 returns-then-has-clause-hand g c = sym c.if-has.ensures
 
@@ -30,20 +18,8 @@ returns-then-has-clause-ends g c = ends_none _ tt
 pub returns-then-has-clause-sure : goal.returns-then-has-clause-sure
 returns-then-has-clause-sure g c = λ is hand. never tt _ is
 
-pub returns-then-has-clause-sound : goal.returns-then-has-clause-sound
-returns-then-has-clause-sound g c = c.requires.sound
-
 pub returns-clause-hand : goal.returns-clause-hand
 returns-clause-hand g c = ok_then c.read.result _ _ (hand_read (g.M.Machine.contents c.read.new.self.machine).words c.read.new.self.held c.args.b.0) c.read.ensures.held
 
-pub returns-clause-viewed : goal.returns-clause-viewed
-returns-clause-viewed g c = c.read.ensures.viewed
-
-pub returns-clause-ends : goal.returns-clause-ends
-returns-clause-ends g c = c.read.ensures.ends
-
 pub returns-clause-sure : goal.returns-clause-sure
 returns-clause-sure g c = λ is hand. true_false (sym hand ∙ sym c.if-has.ensures)
-
-pub returns-clause-sound : goal.returns-clause-sound
-returns-clause-sound g c = c.read.ensures.sound

@@ -3,15 +3,6 @@ use Rattle.registry.proofs.Exits.{ends_fault, ends_read, ends_stopped, held_now,
 use Rattle.registry.proofs.Views.{sound_viewed}
 use Rattle.registry.proofs.cover_view.CoverView.read.Goals as goal
 
-pub read_block-requires-clause-closed : goal.read_block-requires-clause-closed
-read_block-requires-clause-closed g c = c.requires.sound.closed
-
-pub read_block-requires-clause-block : goal.read_block-requires-clause-block
-read_block-requires-clause-block g c = c.requires.block
-
-pub read_block-requires-clause-room : goal.read_block-requires-clause-room
-read_block-requires-clause-room g c = c.requires.sound.room
-
 pub returns-in-Ok-clause-held : goal.returns-in-Ok-clause-held
 returns-in-Ok-clause-held g c = eq-eqb c.args.b.0 c.args.b.0 refl
 
@@ -24,9 +15,6 @@ returns-in-Ok-clause-ends g c = ends_read (g.M.Machine.contents c.args.self.now.
 pub returns-in-Ok-clause-sound : goal.returns-in-Ok-clause-sound
 returns-in-Ok-clause-sound g c = sound_viewed (g.M.Machine.contents c.args.self.now.machine) (g.M.Machine.contents c.read_block.new.self) (g.M.Machine.run c.args.self.now.machine) (g.M.Machine.run c.read_block.new.self) _ _ _ _ (Some c.args.b) c.requires.sound (viewed_read (g.M.Machine.contents c.args.self.now.machine) (g.M.Machine.contents c.read_block.new.self) (g.M.Machine.run c.args.self.now.machine) (g.M.Machine.run c.read_block.new.self) c.read_block.ensures.same c.read_block.ensures.run c.read_block.ensures.lasts) c.read_block.ensures.room (held_now (g.M.Machine.contents c.args.self.now.machine) _ c.args.b c.in-Ok.ensures.words)
 
-pub returns-in-Err-Fault-clause-held : goal.returns-in-Err-Fault-clause-held
-returns-in-Err-Fault-clause-held g c = tt
-
 pub returns-in-Err-Fault-clause-viewed : goal.returns-in-Err-Fault-clause-viewed
 returns-in-Err-Fault-clause-viewed g c = viewed_read (g.M.Machine.contents c.args.self.now.machine) (g.M.Machine.contents c.read_block.new.self) (g.M.Machine.run c.args.self.now.machine) (g.M.Machine.run c.read_block.new.self) c.read_block.ensures.same c.read_block.ensures.run c.read_block.ensures.lasts
 
@@ -35,9 +23,6 @@ returns-in-Err-Fault-clause-ends g c = ends_fault (g.M.Machine.contents c.args.s
 
 pub returns-in-Err-Fault-clause-sound : goal.returns-in-Err-Fault-clause-sound
 returns-in-Err-Fault-clause-sound g c = sound_viewed (g.M.Machine.contents c.args.self.now.machine) (g.M.Machine.contents c.read_block.new.self) (g.M.Machine.run c.args.self.now.machine) (g.M.Machine.run c.read_block.new.self) _ _ _ _ None c.requires.sound (viewed_read (g.M.Machine.contents c.args.self.now.machine) (g.M.Machine.contents c.read_block.new.self) (g.M.Machine.run c.args.self.now.machine) (g.M.Machine.run c.read_block.new.self) c.read_block.ensures.same c.read_block.ensures.run c.read_block.ensures.lasts) c.read_block.ensures.room (none_held (g.M.Machine.contents c.args.self.now.machine) _)
-
-pub returns-in-Err-Stopped-clause-held : goal.returns-in-Err-Stopped-clause-held
-returns-in-Err-Stopped-clause-held g c = tt
 
 pub returns-in-Err-Stopped-clause-viewed : goal.returns-in-Err-Stopped-clause-viewed
 returns-in-Err-Stopped-clause-viewed g c = viewed_read (g.M.Machine.contents c.args.self.now.machine) (g.M.Machine.contents c.read_block.new.self) (g.M.Machine.run c.args.self.now.machine) (g.M.Machine.run c.read_block.new.self) c.read_block.ensures.same c.read_block.ensures.run c.read_block.ensures.lasts

@@ -1,33 +1,18 @@
-use Rattle.std.proofs.Common.{arith, refl}
+use Rattle.std.proofs.Common.{arith}
 use Rattle.std.proofs.lemmas.Result.{err_from_is_err_and}
 use Rattle.rio_base.proofs.MachineRules.{never}
 use Rattle.registry.proofs.Exits.{disk_viewed, ends_err, ends_ok, fault_back, not_ok, view_caches, view_looks}
 use Rattle.registry.proofs.Views.{hand_sure, run_viewed}
 use Rattle.registry.proofs.cover_view.CoverViewBlocks.read_run.Goals as goal
 
-pub fetch-requires-clause-sound : goal.fetch-requires-clause-sound
-fetch-requires-clause-sound g c = c.requires.sound
-
-pub fetch-requires-clause-block : goal.fetch-requires-clause-block
-fetch-requires-clause-block g c = c.requires.place.block
-
-pub words_of-requires-clause-sound : goal.words_of-requires-clause-sound
-words_of-requires-clause-sound g c = c.in_ok-fetch.ensures.sound
-
 pub words_of-requires-clause-block : goal.words_of-requires-clause-block
 words_of-requires-clause-block g c = disk_viewed (g.M.Machine.contents c.args.self.now.machine) (g.M.Machine.contents c.fetch.new.self.machine) (g.M.Machine.run c.args.self.now.machine) (g.M.Machine.run c.fetch.new.self.machine) c.args.b.0 c.in_ok-fetch.ensures.viewed c.requires.place.block
-
-pub words_of-requires-clause-hand : goal.words_of-requires-clause-hand
-words_of-requires-clause-hand g c = c.in_ok-fetch.ensures.hand
 
 pub returns-in_err-fetch-clause-looks : goal.returns-in_err-fetch-clause-looks
 returns-in_err-fetch-clause-looks g c = view_looks (g.M.Machine.contents c.args.self.now.machine) (g.M.Machine.contents c.fetch.new.self.machine) (g.M.Machine.run c.args.self.now.machine) (g.M.Machine.run c.fetch.new.self.machine) c.fetch.ensures.viewed
 
 pub returns-in_err-fetch-clause-caches : goal.returns-in_err-fetch-clause-caches
 returns-in_err-fetch-clause-caches g c = view_caches (g.M.Machine.contents c.args.self.now.machine) (g.M.Machine.contents c.fetch.new.self.machine) (g.M.Machine.run c.args.self.now.machine) (g.M.Machine.run c.fetch.new.self.machine) c.args.b.0 c.args.name
-
-pub returns-in_err-fetch-clause-passes : goal.returns-in_err-fetch-clause-passes
-returns-in_err-fetch-clause-passes g c = c.fetch.ensures.viewed
 
 pub returns-in_err-fetch-clause-ends : goal.returns-in_err-fetch-clause-ends
 returns-in_err-fetch-clause-ends g c =
@@ -39,17 +24,11 @@ returns-in_err-fetch-clause-sure g c =
     let p = err_from_is_err_and c.from_residual.result c.from_residual.ensures.1 in
     λ is sure. c.fetch.ensures.sure (fault_back c.fetch.result c.from_residual.result _ _ c.in_err-fetch.was p.1 p.2 is) (hand_sure _ _ c.args.b.0 sure)
 
-pub returns-in_err-fetch-clause-sound : goal.returns-in_err-fetch-clause-sound
-returns-in_err-fetch-clause-sound g c = c.fetch.ensures.sound
-
 pub returns-clause-looks : goal.returns-clause-looks
 returns-clause-looks g c = view_looks (g.M.Machine.contents c.args.self.now.machine) (g.M.Machine.contents c.fetch.new.self.machine) (g.M.Machine.run c.args.self.now.machine) (g.M.Machine.run c.fetch.new.self.machine) c.in_ok-fetch.ensures.viewed
 
 pub returns-clause-caches : goal.returns-clause-caches
 returns-clause-caches g c = view_caches (g.M.Machine.contents c.args.self.now.machine) (g.M.Machine.contents c.fetch.new.self.machine) (g.M.Machine.run c.args.self.now.machine) (g.M.Machine.run c.fetch.new.self.machine) c.args.b.0 c.args.name
-
-pub returns-clause-passes : goal.returns-clause-passes
-returns-clause-passes g c = c.in_ok-fetch.ensures.viewed
 
 pub returns-clause-ends : goal.returns-clause-ends
 returns-clause-ends g c = ends_ok _ _ c.in_ok-fetch.field-0 _ c.in_ok-fetch.ensures.ends
@@ -57,20 +36,11 @@ returns-clause-ends g c = ends_ok _ _ c.in_ok-fetch.field-0 _ c.in_ok-fetch.ensu
 pub returns-clause-sure : goal.returns-clause-sure
 returns-clause-sure g c = λ is sure. never _ _ is
 
-pub returns-clause-sound : goal.returns-clause-sound
-returns-clause-sound g c = c.in_ok-fetch.ensures.sound
-
 pub copy_words-requires : goal.copy_words-requires
 copy_words-requires g c = record { within = omega (arith, c.words_of.ensures.len, c.requires.place.within) }
 
 pub returns-in_err-fetch-clause-words : goal.returns-in_err-fetch-clause-words
 returns-in_err-fetch-clause-words g c = not_ok _ c.from_residual.result c.from_residual.ensures.0
-
-pub returns-in_err-fetch-clause-len : goal.returns-in_err-fetch-clause-len
-returns-in_err-fetch-clause-len g c = refl
-
-pub returns-clause-len : goal.returns-clause-len
-returns-clause-len g c = c.copy_words.ensures.len
 
 pub returns-clause-words : goal.returns-clause-words
 returns-clause-words g c = run_viewed (g.M.Machine.contents c.args.self.now.machine) (g.M.Machine.contents c.fetch.new.self.machine) (g.M.Machine.run c.args.self.now.machine) (g.M.Machine.run c.fetch.new.self.machine) c.args.b.0 c.args.w _ c.words_of.result.now _ c.in_ok-fetch.ensures.viewed c.words_of.ensures.words c.requires.place.within c.copy_words.ensures.copied

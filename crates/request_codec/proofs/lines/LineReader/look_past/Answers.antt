@@ -10,9 +10,6 @@ returns-in-Ok-clause-err g c =
 pub returns-in-Ok-clause-unended : goal.returns-in-Ok-clause-unended
 returns-in-Ok-clause-unended g c = ap (λ (r : Reading). r.ended) c.self.view_is ∙ c.requires.unended
 
-pub returns-in-Ok-clause-later : goal.returns-in-Ok-clause-later
-returns-in-Ok-clause-later g c = c.fill.ensures.cause.later
-
 pub returns-in-Ok-clause-cause : goal.returns-in-Ok-clause-cause
 returns-in-Ok-clause-cause g c = λ f. absurd (limit_no_fault f)
 
@@ -22,9 +19,6 @@ returns-in-Err-clause-err g c =
 
 pub returns-in-Err-clause-unended : goal.returns-in-Err-clause-unended
 returns-in-Err-clause-unended g c = ap (λ (r : Reading). r.ended) c.self.view_is ∙ c.requires.unended
-
-pub returns-in-Err-clause-later : goal.returns-in-Err-clause-later
-returns-in-Err-clause-later g c = c.fill.ensures.cause.later
 
 pub returns-in-Err-clause-cause : goal.returns-in-Err-clause-cause
 returns-in-Err-clause-cause g c = λ f. c.in-Err.ensures.cause.cause

@@ -42,9 +42,6 @@ returns-then-branch-clause-closed g c = λ e. absurd (true_false (sym e ∙ ap (
 pub returns-then-branch-clause-spent : goal.returns-then-branch-clause-spent
 returns-then-branch-clause-spent g c = λ e. absurd (true_false (sym e ∙ sym (ap (λ (r : Reading). r.ended) c.self.view_is) ∙ c.if-self.false))
 
-pub returns-then-branch-clause-later : goal.returns-then-branch-clause-later
-returns-then-branch-clause-later g c = c.loop-line.invariant.later
-
 pub returns-then-branch-clause-cause : goal.returns-then-branch-clause-cause
 returns-then-branch-clause-cause g c = λ f. absurd (never _ _ f)
 
@@ -63,9 +60,6 @@ returns-in_err-gather-clause-closed g c = λ e. absurd (true_false (sym e ∙ ap
 
 pub returns-in_err-gather-clause-spent : goal.returns-in_err-gather-clause-spent
 returns-in_err-gather-clause-spent g c = λ e. absurd (true_false (sym e ∙ sym (ap (λ (r : Reading). r.ended) c.self.view_is) ∙ c.if-self.false))
-
-pub returns-in_err-gather-clause-later : goal.returns-in_err-gather-clause-later
-returns-in_err-gather-clause-later g c = c.loop-line.invariant.later
 
 pub returns-in_err-gather-clause-cause : goal.returns-in_err-gather-clause-cause
 returns-in_err-gather-clause-cause g c =
@@ -90,9 +84,6 @@ returns-in_err-refill-clause-spent g c = λ e. absurd (true_false (sym e ∙ sym
 
 pub returns-in_err-refill-clause-later : goal.returns-in_err-refill-clause-later
 returns-in_err-refill-clause-later g c = omega (arith, c.loop-line.invariant.later, c.in_err-refill.ensures.later)
-
-pub returns-then-not-branch-clause-within : goal.returns-then-not-branch-clause-within
-returns-then-not-branch-clause-within g c = c.in_ok-refill.ensures.more.1
 
 pub returns-then-not-branch-clause-spent : goal.returns-then-not-branch-clause-spent
 returns-then-not-branch-clause-spent g c = λ e. absurd (true_false (sym e ∙ sym (ap (λ (r : Reading). r.ended) c.self.view_is) ∙ c.if-self.false))

@@ -34,12 +34,6 @@ returns-clause-count g c =
       omega (arith, c.in_ok-n.ensures.bound, c.min-room.ensures),
     )
 
-pub returns-clause-end : goal.returns-clause-end
-returns-clause-end g c = c.in_ok-n.ensures.end
-
-pub returns-clause-cause : goal.returns-clause-cause
-returns-clause-cause g c = c.in_ok-n.ensures.cause
-
 pub returns-in_err-n-clause-bytes : goal.returns-in_err-n-clause-bytes
 returns-in_err-n-clause-bytes g c =
     let told = err_from_is_err_and c.from_residual.result c.from_residual.ensures.1 in
@@ -64,9 +58,6 @@ pub returns-in_err-n-clause-cause : goal.returns-in_err-n-clause-cause
 returns-in_err-n-clause-cause g c =
     let told = err_from_is_err_and c.from_residual.result c.from_residual.ensures.1 in
     rw told.1 (record { later = c.in_err-n.ensures.cause.later; cause = c.in_err-n.ensures.cause.cause })
-
-pub returns-clause-err : goal.returns-clause-err
-returns-clause-err g c = tt
 
 pub invariant_of-self : goal.invariant_of-self
 invariant_of-self g c =

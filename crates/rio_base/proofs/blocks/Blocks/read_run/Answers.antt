@@ -19,17 +19,11 @@ loop-i-init g c = record {
   sound = c.requires.sound;
 }
 
-pub word-requires-clause-sound : goal.word-requires-clause-sound
-word-requires-clause-sound g c = c.loop-i.invariant.sound
-
 pub word-requires-clause-place : goal.word-requires-clause-place
 word-requires-clause-place g c = record {
   block = subst (λ n. c.args.b.0 < n) (sym c.loop-i.invariant.looks.count) c.requires.place.block;
   word = omega (arith, c.requires.place.within, c.loop-i-test.true);
 }
-
-pub word-requires-clause-name : goal.word-requires-clause-name
-word-requires-clause-name g c = c.loop-i.invariant.name
 
 pub returns-in_err-into-clause-words : goal.returns-in_err-into-clause-words
 returns-in_err-into-clause-words g c =
@@ -50,9 +44,6 @@ returns-in_err-into-clause-ends g c =
     let p = err_from_is_err_and c.from_residual.result c.from_residual.ensures.1 in
     ends_failed _ _ _ _ p.0 c.from_residual.result p.1 p.2 c.loop-i.invariant.ran c.in_err-into.ensures.ends
 
-pub returns-in_err-into-clause-sound : goal.returns-in_err-into-clause-sound
-returns-in_err-into-clause-sound g c = c.word.ensures.sound
-
 pub loop-i-preserved : goal.loop-i-preserved
 loop-i-preserved g c =
     let i = c.loop-i.invariant in
@@ -72,19 +63,7 @@ loop-i-preserved g c =
 pub returns-clause-words : goal.returns-clause-words
 returns-clause-words g c = record { each = λ k less. c.loop-i.invariant.words.each k (omega (arith, less, c.loop-i-test.false)) }
 
-pub returns-clause-looks : goal.returns-clause-looks
-returns-clause-looks g c = c.loop-i.invariant.looks
-
-pub returns-clause-caches : goal.returns-clause-caches
-returns-clause-caches g c = c.loop-i.invariant.caches
-
-pub returns-clause-passes : goal.returns-clause-passes
-returns-clause-passes g c = c.loop-i.invariant.passes
-
 pub returns-clause-ends : goal.returns-clause-ends
 returns-clause-ends g c =
     let ran = c.loop-i.invariant.ran in
     record { later = ran.later; stays = λ e. ran.same ∙ e; cause = ran.same }
-
-pub returns-clause-sound : goal.returns-clause-sound
-returns-clause-sound g c = c.loop-i.invariant.sound

@@ -83,14 +83,8 @@ loop-i-preserved g c =
       runs = c.in_ok-store.ensures.ends.runs (λ e. true_false (sym e)) ∙ i.runs;
     }
 
-pub returns-clause-rest : goal.returns-clause-rest
-returns-clause-rest g c = c.loop-i.invariant.rest
-
 pub returns-clause-lasts : goal.returns-clause-lasts
 returns-clause-lasts g c = lasts_words _ _ c.loop-i.invariant.rest c.loop-i.invariant.stored.count
-
-pub returns-clause-falls : goal.returns-clause-falls
-returns-clause-falls g c = c.loop-i.invariant.falls
 
 pub returns-clause-ends : goal.returns-clause-ends
 returns-clause-ends g c =

@@ -23,9 +23,6 @@ overflow_cast-i g c = omega (arith, c.requires.place, c.loop-i-test.true, g.met.
 pub overflow_add-at : goal.overflow_add-at
 overflow_add-at g c = omega (arith, c.requires.place, c.loop-i-test.true, g.met.Self.RegionWords.small _ c.requires.ready)
 
-pub word-requires-clause-ready : goal.word-requires-clause-ready
-word-requires-clause-ready g c = c.loop-i.invariant.stays.ready
-
 pub word-requires-clause-place : goal.word-requires-clause-place
 word-requires-clause-place g c = omega (arith, c.requires.place, c.loop-i-test.true, c.loop-i.invariant.stays.count)
 
@@ -60,12 +57,6 @@ loop-i-preserved g c =
 
 pub returns-clause-value : goal.returns-clause-value
 returns-clause-value g c = record { each = λ k less. c.loop-i.invariant.value.each k (omega (arith, less, c.loop-i-test.false)) }
-
-pub returns-clause-words : goal.returns-clause-words
-returns-clause-words g c = c.loop-i.invariant.words
-
-pub returns-clause-stays : goal.returns-clause-stays
-returns-clause-stays g c = c.loop-i.invariant.stays
 
 pub returns-clause-ends : goal.returns-clause-ends
 returns-clause-ends g c =

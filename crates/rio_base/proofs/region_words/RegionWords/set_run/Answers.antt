@@ -22,9 +22,6 @@ overflow_add-at g c = omega (arith, c.requires.place, c.loop-i-test.true, g.met.
 pub overflow_cast-result : goal.overflow_cast-result
 overflow_cast-result g c = omega (arith, c.requires.place, c.loop-i-test.true, g.met.Self.RegionWords.small _ c.requires.ready)
 
-pub set-requires-clause-ready : goal.set-requires-clause-ready
-set-requires-clause-ready g c = c.loop-i.invariant.stays.ready
-
 pub set-requires-clause-place : goal.set-requires-clause-place
 set-requires-clause-place g c = omega (arith, c.requires.place, c.loop-i-test.true, c.loop-i.invariant.stays.count)
 
@@ -58,9 +55,6 @@ loop-i-preserved g c =
       stays = stays_trans g.met.Self.RegionWords.rest_trans i.stays s.stays;
       ran = ran_more _ _ _ i.ran s.ends.later s.ends.cause;
     }
-
-pub returns-clause-stays : goal.returns-clause-stays
-returns-clause-stays g c = c.loop-i.invariant.stays
 
 pub returns-clause-ends : goal.returns-clause-ends
 returns-clause-ends g c =

@@ -23,9 +23,6 @@ loop-i-init g c = record {
   sound = c.requires.sound;
 }
 
-pub edit-requires-clause-sound : goal.edit-requires-clause-sound
-edit-requires-clause-sound g c = c.loop-i.invariant.sound
-
 pub edit-requires-clause-place : goal.edit-requires-clause-place
 edit-requires-clause-place g c = record {
   block = subst (λ n. c.args.b.0 < n) (sym c.loop-i.invariant.count) c.requires.place.block;
@@ -85,18 +82,6 @@ loop-i-preserved g c =
       ran = ran_more _ _ _ i.ran call.ends.later now.ends.cause;
       sound = call.sound;
     }
-
-pub returns-clause-update : goal.returns-clause-update
-returns-clause-update g c = c.loop-i.invariant.update
-
-pub returns-clause-firm : goal.returns-clause-firm
-returns-clause-firm g c = c.loop-i.invariant.firm
-
-pub returns-clause-drops : goal.returns-clause-drops
-returns-clause-drops g c = c.loop-i.invariant.drops
-
-pub returns-clause-goes : goal.returns-clause-goes
-returns-clause-goes g c = c.loop-i.invariant.goes
 
 pub returns-clause-ends : goal.returns-clause-ends
 returns-clause-ends g c =

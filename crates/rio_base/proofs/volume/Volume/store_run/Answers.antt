@@ -32,17 +32,11 @@ loop-i-init g c = record {
   sound = c.requires.sound;
 }
 
-pub store-requires-clause-sound : goal.store-requires-clause-sound
-store-requires-clause-sound g c = c.loop-i.invariant.sound
-
 pub store-requires-clause-place : goal.store-requires-clause-place
 store-requires-clause-place g c = record {
   block = subst (λ n. c.args.b.0 < n) (sym c.loop-i.invariant.count) c.requires.place.block;
   word = omega (arith, c.requires.place.within, c.loop-i-test.true);
 }
-
-pub store-requires-clause-name : goal.store-requires-clause-name
-store-requires-clause-name g c = c.loop-i.invariant.name
 
 pub returns-in-Err-Fault-clause-fault : goal.returns-in-Err-Fault-clause-fault
 returns-in-Err-Fault-clause-fault g c = (c.loop-i-test.true, (c.in-Err-Fault.ensures.fault (ap Err c.in-Err-Fault.field-0-is)).0 ∙ c.loop-i.invariant.words)
@@ -109,18 +103,6 @@ loop-i-preserved g c =
       ran = ran_more _ _ _ i.ran s.ends.later s.ends.cause;
       sound = s.sound;
     }
-
-pub returns-clause-standing : goal.returns-clause-standing
-returns-clause-standing g c = c.loop-i.invariant.standing
-
-pub returns-clause-firm : goal.returns-clause-firm
-returns-clause-firm g c = c.loop-i.invariant.firm
-
-pub returns-clause-caches : goal.returns-clause-caches
-returns-clause-caches g c = c.loop-i.invariant.caches
-
-pub returns-clause-goes : goal.returns-clause-goes
-returns-clause-goes g c = c.loop-i.invariant.goes
 
 pub returns-clause-ends : goal.returns-clause-ends
 returns-clause-ends g c =

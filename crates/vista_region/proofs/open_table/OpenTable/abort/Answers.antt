@@ -39,14 +39,8 @@ returns-clause-ends g c =
 pub returns-then-is_none-clause-ends : goal.returns-then-is_none-clause-ends
 returns-then-is_none-clause-ends g c = (ap (abort_on (region_now (g.R.RegionWords.words c.args.r.now))) (unmarked c.args.self.now c.args.i.0 (g.R.RegionWords.words c.args.r.now) (sym c.mark.ensures ∙ none_of c.mark.result (c.is_none.ensures ∙ ap not c.if-is_none.true))), refl, refl)
 
-pub returns-then-is_none-clause-closed : goal.returns-then-is_none-clause-closed
-returns-then-is_none-clause-closed g c = tt
-
 pub returns-then-is_none-clause-table : goal.returns-then-is_none-clause-table
 returns-then-is_none-clause-table g c = λ h calm. refl
-
-pub returns-then-is_none-clause-doomed : goal.returns-then-is_none-clause-doomed
-returns-then-is_none-clause-doomed g c = tt
 
 pub returns-then-is_none-clause-before : goal.returns-then-is_none-clause-before
 returns-then-is_none-clause-before g c = undoes_refl (g.R.RegionWords.count c.args.r.now) (g.R.RegionWords.words c.args.r.now) c.requires.fits.region
@@ -59,12 +53,6 @@ returns-then-is_none-clause-stays g c = stays_none c.args.r.now (g.met.R.RegionW
 
 pub returns-then-is_none-clause-causes : goal.returns-then-is_none-clause-causes
 returns-then-is_none-clause-causes g c = told_ends {T = Unit {0}} _ _ (Err NoTransaction) tt (le_refl _) refl
-
-pub put_back-back-requires-clause-ready : goal.put_back-back-requires-clause-ready
-put_back-back-requires-clause-ready g c = c.requires.ready
-
-pub put_back-back-requires-clause-region : goal.put_back-back-requires-clause-region
-put_back-back-requires-clause-region g c = c.requires.fits.region
 
 pub dooming-requires : goal.dooming-requires
 dooming-requires g c = record { some = ((some_of c.mark.result (c.is_none.ensures ∙ ap not c.if-is_none.false)).0, sym c.mark.ensures ∙ (some_of c.mark.result (c.is_none.ensures ∙ ap not c.if-is_none.false)).1) }
@@ -89,18 +77,6 @@ returns-in_err-dooming-clause-doomed g c =
     let p = err_from_is_err_and c.from_residual.result c.from_residual.ensures.1 in
     fault_handed c.put_back-back.result c.from_residual.result _ _ (λ k. (k ≡ 0) × ((b : Bool) × (mark_of c.args.self.now c.args.i.0 ≡ Some b)) × (c.dooming.new.self ≡ set_mark c.args.self.now c.args.i.0 (Some true))) (sym c.dooming.ensures.same ∙ c.in_err-dooming.was) p.1 p.2 c.put_back-back.ensures.fault (λ fault. (refl, ((some_of c.mark.result (c.is_none.ensures ∙ ap not c.if-is_none.false)).0, sym c.mark.ensures ∙ (some_of c.mark.result (c.is_none.ensures ∙ ap not c.if-is_none.false)).1), c.dooming.ensures.doomed fault))
 
-pub returns-in_err-dooming-clause-before : goal.returns-in_err-dooming-clause-before
-returns-in_err-dooming-clause-before g c = c.put_back-back.ensures.before
-
-pub returns-in_err-dooming-clause-stays : goal.returns-in_err-dooming-clause-stays
-returns-in_err-dooming-clause-stays g c = c.put_back-back.ensures.stays
-
-pub returns-clause-before : goal.returns-clause-before
-returns-clause-before g c = c.put_back-back.ensures.before
-
-pub returns-clause-stays : goal.returns-clause-stays
-returns-clause-stays g c = c.put_back-back.ensures.stays
-
 pub returns-in_err-dooming-clause-causes : goal.returns-in_err-dooming-clause-causes
 returns-in_err-dooming-clause-causes g c =
     let p = err_from_is_err_and c.from_residual.result c.from_residual.ensures.1 in
@@ -111,9 +87,6 @@ returns-clause-closed g c = c.close.ensures.rows ∙ ap (λ ms. set_mark ms c.ar
 
 pub returns-clause-table : goal.returns-clause-table
 returns-clause-table g c = λ h. absurd (true_false (sym h))
-
-pub returns-clause-doomed : goal.returns-clause-doomed
-returns-clause-doomed g c = tt
 
 pub returns-clause-fits : goal.returns-clause-fits
 returns-clause-fits g c =

@@ -55,20 +55,11 @@ returns-in_err-active-clause-causes g c =
     let p = err_from_is_err_and c.from_residual.result c.from_residual.ensures.1 in
     told_ends _ _ c.from_residual.result (told_active c.args.self.now c.args.i.0 c.active.result c.from_residual.result _ _ c.in_err-active.was p.1 p.2 c.active.ensures) (le_refl _) refl
 
-pub take_block-taken-requires-clause-ready : goal.take_block-taken-requires-clause-ready
-take_block-taken-requires-clause-ready g c = c.requires.ready
-
-pub take_block-taken-requires-clause-region : goal.take_block-taken-requires-clause-region
-take_block-taken-requires-clause-region g c = c.requires.fits.region
-
 pub take_block-taken-requires-clause-heap : goal.take_block-taken-requires-clause-heap
 take_block-taken-requires-clause-heap g c = c.requires.fits.heap (is_open c.args.self.now c.args.i.0 c.active.result c.in_ok-active.field-0 c.in_ok-active.was c.active.ensures)
 
 pub dooming-requires : goal.dooming-requires
 dooming-requires g c = record { some = (false, is_open c.args.self.now c.args.i.0 c.active.result c.in_ok-active.field-0 c.in_ok-active.was c.active.ensures) }
-
-pub take_block-taken-requires-clause-units : goal.take_block-taken-requires-clause-units
-take_block-taken-requires-clause-units g c = c.requires.units
 
 pub returns-in_err-unit-clause-ends : goal.returns-in_err-unit-clause-ends
 returns-in_err-unit-clause-ends g c =
@@ -90,18 +81,6 @@ returns-in_err-unit-clause-causes g c =
     let p = err_from_is_err_and c.from_residual-in_err-unit.result c.from_residual-in_err-unit.ensures.1 in
     ends_as _ _ c.take_block-taken.result c.from_residual-in_err-unit.result _ _ (sym c.dooming.ensures.same ∙ c.in_err-unit.was) p.1 p.2 c.take_block-taken.ensures.causes
 
-pub returns-in_err-unit-clause-before : goal.returns-in_err-unit-clause-before
-returns-in_err-unit-clause-before g c = c.take_block-taken.ensures.before
-
-pub returns-in_err-unit-clause-stays : goal.returns-in_err-unit-clause-stays
-returns-in_err-unit-clause-stays g c = c.take_block-taken.ensures.stays
-
-pub returns-clause-before : goal.returns-clause-before
-returns-clause-before g c = c.take_block-taken.ensures.before
-
-pub returns-clause-stays : goal.returns-clause-stays
-returns-clause-stays g c = c.take_block-taken.ensures.stays
-
 pub returns-clause-ends : goal.returns-clause-ends
 returns-clause-ends g c =
     let done : DoneAs (alloc_on (region_now (g.R.RegionWords.words c.args.r.now)) (txn_in c.args.self.now c.args.i.0 (g.R.RegionWords.words c.args.r.now)) c.args.units) c.args.self.now c.args.i.0 (g.R.RegionWords.words c.take_block-taken.new.r) (says_unit c.in_ok-unit.unit) = subst (λ r. TxnEnds (alloc_on (region_now (g.R.RegionWords.words c.args.r.now)) (txn_in c.args.self.now c.args.i.0 (g.R.RegionWords.words c.args.r.now)) c.args.units) says_unit c.args.self.now c.args.self.now c.args.i.0 (g.R.RegionWords.words c.args.r.now) (g.R.RegionWords.words c.take_block-taken.new.r) r) (sym c.dooming.ensures.same ∙ c.in_ok-unit.was) (c.take_block-taken.ensures.ends c.args.self.now c.args.i.0 (is_open c.args.self.now c.args.i.0 c.active.result c.in_ok-active.field-0 c.in_ok-active.was c.active.ensures)) in
@@ -109,9 +88,6 @@ returns-clause-ends g c =
 
 pub returns-clause-table : goal.returns-clause-table
 returns-clause-table g c = λ calm. c.dooming.ensures.kept (ok_calm c.take_block-taken.result _ (sym c.dooming.ensures.same ∙ c.in_ok-unit.was))
-
-pub returns-clause-doomed : goal.returns-clause-doomed
-returns-clause-doomed g c = tt
 
 pub returns-clause-fits : goal.returns-clause-fits
 returns-clause-fits g c =

@@ -44,12 +44,6 @@ returns-in_err-active-clause-causes g c =
     let p = err_from_is_err_and c.from_residual.result c.from_residual.ensures.1 in
     told_ends _ _ c.from_residual.result (told_active c.args.self.now c.args.i.0 c.active.result c.from_residual.result _ _ c.in_err-active.was p.1 p.2 c.active.ensures) (le_refl _) refl
 
-pub drop_all-requires-clause-ready : goal.drop_all-requires-clause-ready
-drop_all-requires-clause-ready g c = c.requires.ready
-
-pub drop_all-requires-clause-region : goal.drop_all-requires-clause-region
-drop_all-requires-clause-region g c = c.requires.fits.region
-
 pub returns-in_err-drop_all-clause-ends : goal.returns-in_err-drop_all-clause-ends
 returns-in_err-drop_all-clause-ends g c =
     let p = err_from_is_err_and c.from_residual-in_err-drop_all.result c.from_residual-in_err-drop_all.ensures.1 in
@@ -76,31 +70,19 @@ returns-in_err-drop_all-clause-fits g c =
     let p = err_from_is_err_and c.from_residual-in_err-drop_all.result c.from_residual-in_err-drop_all.ensures.1 in
     λ runs. fits_same c.args.self.now c.args.i.0 (g.R.RegionWords.count c.args.r.now) (g.R.RegionWords.count c.drop_all.new.r) (g.R.RegionWords.words c.args.r.now) (g.R.RegionWords.words c.drop_all.new.r) c.drop_all.ensures.stays.count (c.drop_all.ensures.fault (handed_is_fault c.drop_all.result c.from_residual-in_err-drop_all.result _ _ c.in_err-drop_all.was p.1 p.2 runs)) c.requires.fits
 
-pub returns-in_err-drop_all-clause-stays : goal.returns-in_err-drop_all-clause-stays
-returns-in_err-drop_all-clause-stays g c = c.drop_all.ensures.stays
-
 pub returns-in_err-drop_all-clause-causes : goal.returns-in_err-drop_all-clause-causes
 returns-in_err-drop_all-clause-causes g c =
     let p = err_from_is_err_and c.from_residual-in_err-drop_all.result c.from_residual-in_err-drop_all.ensures.1 in
     ends_handed _ _ c.drop_all.result c.from_residual-in_err-drop_all.result _ _ c.in_err-drop_all.was p.1 p.2 c.drop_all.ensures.ends
 
-pub returns-clause-fault : goal.returns-clause-fault
-returns-clause-fault g c = tt
-
 pub returns-clause-either : goal.returns-clause-either
 returns-clause-either g c = inr (is_open c.args.self.now c.args.i.0 c.active.result c.in_ok-active.field-0 c.in_ok-active.was c.active.ensures, c.in_ok-drop_all.ensures.ok)
-
-pub returns-clause-closed : goal.returns-clause-closed
-returns-clause-closed g c = c.close.ensures.rows
 
 pub returns-clause-table : goal.returns-clause-table
 returns-clause-table g c = λ h. absurd (true_false (sym h))
 
 pub returns-clause-fits : goal.returns-clause-fits
 returns-clause-fits g c = λ runs. fits_closed c.close.new.self c.args.i.0 (g.R.RegionWords.count c.drop_all.new.r) (g.R.RegionWords.words c.drop_all.new.r) c.close.ensures.gone c.drop_all.ensures.region c.in_ok-drop_all.ensures.ok.records
-
-pub returns-clause-stays : goal.returns-clause-stays
-returns-clause-stays g c = c.drop_all.ensures.stays
 
 pub returns-clause-causes : goal.returns-clause-causes
 returns-clause-causes g c = told_ends {T = Unit {0}} _ _ (Ok tt) tt c.drop_all.ensures.ends.later c.in_ok-drop_all.ensures.ends.cause

@@ -35,26 +35,14 @@ returns-clause-ok g c =
     let read = subst (λ (w : RegionContent). c.push_bytes.new.out.items ≡ c.in_ok-bytes.bytes.items ++ bytes_in (λ y. live w (c.data_place.result + y)) c.args.off (c.args.off + c.args.len - c.args.off)) c.in_ok-pages.ensures.words c.in_ok-push_bytes.ensures.bytes in
     get_done c.args.self.now c.args.i.0 f c.args.off c.args.len c.data_place.result c.in_ok-bytes.bytes.items c.from.result (sym c.is_doomed.ensures ∙ c.if-is_doomed.false) inside from c.in_ok-bytes.ensures.items (c.from.ensures ∙ read)
 
-pub returns-then-is_doomed-clause-ok : goal.returns-then-is_doomed-clause-ok
-returns-then-is_doomed-clause-ok g c = tt
-
 pub returns-then-is_doomed-clause-refused : goal.returns-then-is_doomed-clause-refused
 returns-then-is_doomed-clause-refused g c = λ n is. get_doomed c.args.self.now c.args.i.0 (g.R.RegionWords.words c.args.r.now) c.args.off c.args.len n (sym c.is_doomed.ensures ∙ c.if-is_doomed.true) is
-
-pub returns-then-is_doomed-clause-words : goal.returns-then-is_doomed-clause-words
-returns-then-is_doomed-clause-words g c = refl
 
 pub returns-then-is_doomed-clause-stays : goal.returns-then-is_doomed-clause-stays
 returns-then-is_doomed-clause-stays g c = stays_none c.args.r.now (g.met.R.RegionWords.rest_refl c.args.r.now) c.requires.ready
 
 pub returns-then-is_doomed-clause-causes : goal.returns-then-is_doomed-clause-causes
 returns-then-is_doomed-clause-causes g c = read_doomed _ _ (le_refl _) refl
-
-pub data_pages-requires-clause-ready : goal.data_pages-requires-clause-ready
-data_pages-requires-clause-ready g c = c.requires.ready
-
-pub data_pages-requires-clause-region : goal.data_pages-requires-clause-region
-data_pages-requires-clause-region g c = c.requires.fits.region
 
 pub returns-in_err-pages-clause-ok : goal.returns-in_err-pages-clause-ok
 returns-in_err-pages-clause-ok g c =
@@ -70,9 +58,6 @@ pub returns-in_err-pages-clause-causes : goal.returns-in_err-pages-clause-causes
 returns-in_err-pages-clause-causes g c =
     let p = err_from_is_err_and c.from_residual.result c.from_residual.ensures.1 in
     ends_get _ _ c.data_pages.result c.from_residual.result _ _ c.in_err-pages.was p.1 p.2 c.data_pages.ensures.ends
-
-pub returns-then-not-ends_within-clause-ok : goal.returns-then-not-ends_within-clause-ok
-returns-then-not-ends_within-clause-ok g c = tt
 
 pub returns-then-not-ends_within-clause-causes : goal.returns-then-not-ends_within-clause-causes
 returns-then-not-ends_within-clause-causes g c = read_past _ _ c.data_pages.ensures.ends.later c.in_ok-pages.ensures.ends.cause
@@ -91,24 +76,6 @@ pub returns-in_err-bytes-clause-causes : goal.returns-in_err-bytes-clause-causes
 returns-in_err-bytes-clause-causes g c =
     let p = err_from_is_err_and c.from_residual-in_err-bytes.result c.from_residual-in_err-bytes.ensures.1 in
     read_memory _ _ c.from_residual-in_err-bytes.result _ p.1 p.2 c.data_pages.ensures.ends.later c.in_ok-pages.ensures.ends.cause
-
-pub returns-in_err-pages-clause-words : goal.returns-in_err-pages-clause-words
-returns-in_err-pages-clause-words g c = c.data_pages.ensures.words
-
-pub returns-in_err-pages-clause-stays : goal.returns-in_err-pages-clause-stays
-returns-in_err-pages-clause-stays g c = c.data_pages.ensures.stays
-
-pub returns-then-not-ends_within-clause-words : goal.returns-then-not-ends_within-clause-words
-returns-then-not-ends_within-clause-words g c = c.data_pages.ensures.words
-
-pub returns-then-not-ends_within-clause-stays : goal.returns-then-not-ends_within-clause-stays
-returns-then-not-ends_within-clause-stays g c = c.data_pages.ensures.stays
-
-pub returns-in_err-bytes-clause-words : goal.returns-in_err-bytes-clause-words
-returns-in_err-bytes-clause-words g c = c.data_pages.ensures.words
-
-pub returns-in_err-bytes-clause-stays : goal.returns-in_err-bytes-clause-stays
-returns-in_err-bytes-clause-stays g c = c.data_pages.ensures.stays
 
 pub returns-in_err-push_bytes-clause-ok : goal.returns-in_err-push_bytes-clause-ok
 returns-in_err-push_bytes-clause-ok g c =
@@ -132,14 +99,5 @@ returns-clause-words g c = c.push_bytes.ensures.words ∙ c.data_pages.ensures.w
 pub returns-clause-stays : goal.returns-clause-stays
 returns-clause-stays g c = stays_trans g.met.R.RegionWords.rest_trans c.data_pages.ensures.stays c.push_bytes.ensures.stays
 
-pub returns-clause-refused : goal.returns-clause-refused
-returns-clause-refused g c = tt
-
 pub returns-clause-causes : goal.returns-clause-causes
 returns-clause-causes g c = read_ends _ _ _ (le_trans c.data_pages.ensures.ends.later c.push_bytes.ensures.ends.later) (c.in_ok-push_bytes.ensures.ends.runs (ok_apart c.in_ok-push_bytes.field-0 GetStopped) ∙ c.in_ok-pages.ensures.ends.cause)
-
-pub push_bytes-requires-clause-ready : goal.push_bytes-requires-clause-ready
-push_bytes-requires-clause-ready g c = c.data_pages.ensures.stays.ready
-
-pub push_bytes-requires-clause-region : goal.push_bytes-requires-clause-region
-push_bytes-requires-clause-region g c = c.data_pages.ensures.region

@@ -139,9 +139,6 @@ returns-in_err-active-clause-fault g c =
     let p = err_from_is_err_and c.from_residual.result c.from_residual.ensures.1 in
     told_quiet c.from_residual.result _ (told_active c.args.self.now c.args.i.0 c.active.result c.from_residual.result _ _ c.in_err-active.was p.1 p.2 c.active.ensures)
 
-pub returns-in_err-active-clause-table : goal.returns-in_err-active-clause-table
-returns-in_err-active-clause-table g c = refl
-
 pub returns-in_err-active-clause-before : goal.returns-in_err-active-clause-before
 returns-in_err-active-clause-before g c = undoes_refl (g.R.RegionWords.count c.args.r.now) (g.R.RegionWords.words c.args.r.now) c.requires.fits.region
 
@@ -161,9 +158,6 @@ returns-in_err-whole_words-clause-fault g c =
     let p = err_from_is_err_and c.from_residual-in_err-whole_words.result c.from_residual-in_err-whole_words.ensures.1 in
     told_quiet c.from_residual-in_err-whole_words.result _ (told_words c.args.off (length c.args.bytes.now) c.whole_words.result c.from_residual-in_err-whole_words.result _ _ c.in_err-whole_words.was p.1 p.2 c.whole_words.ensures)
 
-pub returns-in_err-whole_words-clause-table : goal.returns-in_err-whole_words-clause-table
-returns-in_err-whole_words-clause-table g c = refl
-
 pub returns-in_err-whole_words-clause-before : goal.returns-in_err-whole_words-clause-before
 returns-in_err-whole_words-clause-before g c = undoes_refl (g.R.RegionWords.count c.args.r.now) (g.R.RegionWords.words c.args.r.now) c.requires.fits.region
 
@@ -178,28 +172,16 @@ returns-in_err-whole_words-clause-causes g c =
     let p = err_from_is_err_and c.from_residual-in_err-whole_words.result c.from_residual-in_err-whole_words.ensures.1 in
     told_ends _ _ c.from_residual-in_err-whole_words.result (told_words c.args.off (length c.args.bytes.now) c.whole_words.result c.from_residual-in_err-whole_words.result _ _ c.in_err-whole_words.was p.1 p.2 c.whole_words.ensures) (le_refl _) refl
 
-pub read_header-requires-clause-ready : goal.read_header-requires-clause-ready
-read_header-requires-clause-ready g c = c.requires.ready
-
-pub read_header-requires-clause-region : goal.read_header-requires-clause-region
-read_header-requires-clause-region g c = c.requires.fits.region
-
 pub returns-in_err-header-clause-ends : goal.returns-in_err-header-clause-ends
 returns-in_err-header-clause-ends g c =
     let p = err_from_is_err_and c.from_residual-in_err-header.result c.from_residual-in_err-header.ensures.1 in
     handed_ends _ says_number c.args.self.now c.args.self.now c.args.i.0 (g.R.RegionWords.words c.args.r.now) (g.R.RegionWords.words c.read_header.new.r) c.from_residual-in_err-header.result _ _ p.1 p.2
-
-pub returns-in_err-header-clause-table : goal.returns-in_err-header-clause-table
-returns-in_err-header-clause-table g c = refl
 
 pub returns-in_err-header-clause-before : goal.returns-in_err-header-clause-before
 returns-in_err-header-clause-before g c = undoes_same (g.R.RegionWords.count c.args.r.now) (g.R.RegionWords.words c.args.r.now) (g.R.RegionWords.words c.read_header.new.r) c.requires.fits.region c.read_header.ensures.words
 
 pub returns-in_err-header-clause-fits : goal.returns-in_err-header-clause-fits
 returns-in_err-header-clause-fits g c = λ runs. fits_same c.args.self.now c.args.i.0 (g.R.RegionWords.count c.args.r.now) (g.R.RegionWords.count c.read_header.new.r) (g.R.RegionWords.words c.args.r.now) (g.R.RegionWords.words c.read_header.new.r) c.read_header.ensures.stays.count c.read_header.ensures.words c.requires.fits
-
-pub returns-in_err-header-clause-stays : goal.returns-in_err-header-clause-stays
-returns-in_err-header-clause-stays g c = c.read_header.ensures.stays
 
 pub returns-in_err-header-clause-causes : goal.returns-in_err-header-clause-causes
 returns-in_err-header-clause-causes g c =
@@ -214,28 +196,16 @@ returns-in_err-span-clause-fault g c =
     let p = err_from_is_err_and c.from_residual-in_err-span.result c.from_residual-in_err-span.ensures.1 in
     told_quiet c.from_residual-in_err-span.result _ (told_past c.from_residual-in_err-span.result _ _ p.1 p.2 c.in_err-span.ensures.0)
 
-pub returns-in_err-span-clause-table : goal.returns-in_err-span-clause-table
-returns-in_err-span-clause-table g c = refl
-
 pub returns-in_err-span-clause-before : goal.returns-in_err-span-clause-before
 returns-in_err-span-clause-before g c = undoes_same (g.R.RegionWords.count c.args.r.now) (g.R.RegionWords.words c.args.r.now) (g.R.RegionWords.words c.read_header.new.r) c.requires.fits.region c.read_header.ensures.words
 
 pub returns-in_err-span-clause-fits : goal.returns-in_err-span-clause-fits
 returns-in_err-span-clause-fits g c = λ runs. fits_same c.args.self.now c.args.i.0 (g.R.RegionWords.count c.args.r.now) (g.R.RegionWords.count c.read_header.new.r) (g.R.RegionWords.words c.args.r.now) (g.R.RegionWords.words c.read_header.new.r) c.read_header.ensures.stays.count c.read_header.ensures.words c.requires.fits
 
-pub returns-in_err-span-clause-stays : goal.returns-in_err-span-clause-stays
-returns-in_err-span-clause-stays g c = c.read_header.ensures.stays
-
 pub returns-in_err-span-clause-causes : goal.returns-in_err-span-clause-causes
 returns-in_err-span-clause-causes g c =
     let p = err_from_is_err_and c.from_residual-in_err-span.result c.from_residual-in_err-span.ensures.1 in
     told_ends _ _ c.from_residual-in_err-span.result (told_past c.from_residual-in_err-span.result _ _ p.1 p.2 c.in_err-span.ensures.0) c.read_header.ensures.ends.later c.in_ok-header.ensures.ends.cause
-
-pub covered_from_head-requires-clause-ready : goal.covered_from_head-requires-clause-ready
-covered_from_head-requires-clause-ready g c = c.read_header.ensures.stays.ready
-
-pub covered_from_head-requires-clause-region : goal.covered_from_head-requires-clause-region
-covered_from_head-requires-clause-region g c = c.read_header.ensures.region
 
 pub covered_from_head-requires-clause-head : goal.covered_from_head-requires-clause-head
 covered_from_head-requires-clause-head g c = c.in_ok-header.ensures.header.head ∙ sym (ap (λ (w : RegionContent). w 3) c.read_header.ensures.words)
@@ -253,9 +223,6 @@ returns-in_err-covered_from_head-clause-fault g c =
     let p = err_from_is_err_and c.from_residual-in_err-covered_from_head.result c.from_residual-in_err-covered_from_head.ensures.1 in
     handed_fault c.covered_from_head.result c.from_residual-in_err-covered_from_head.result _ _ (λ k. PutPart (put_on (region_now (g.R.RegionWords.words c.args.r.now)) (txn_in c.args.self.now c.args.i.0 (g.R.RegionWords.words c.args.r.now)) c.args.off c.args.bytes.now) c.args.self.now c.args.i.0 (g.R.RegionWords.words c.args.r.now) (g.R.RegionWords.words c.covered_from_head.new.r) c.args.off c.args.bytes.now k) c.in_err-covered_from_head.was p.1 p.2 (λ fault. none_put _ c.args.self.now c.args.i.0 (g.R.RegionWords.words c.args.r.now) (g.R.RegionWords.words c.covered_from_head.new.r) c.args.off c.args.bytes.now (c.covered_from_head.ensures.words ∙ c.read_header.ensures.words) 0 refl)
 
-pub returns-in_err-covered_from_head-clause-table : goal.returns-in_err-covered_from_head-clause-table
-returns-in_err-covered_from_head-clause-table g c = refl
-
 pub returns-in_err-covered_from_head-clause-before : goal.returns-in_err-covered_from_head-clause-before
 returns-in_err-covered_from_head-clause-before g c = undoes_same (g.R.RegionWords.count c.args.r.now) (g.R.RegionWords.words c.args.r.now) (g.R.RegionWords.words c.covered_from_head.new.r) c.requires.fits.region (c.covered_from_head.ensures.words ∙ c.read_header.ensures.words)
 
@@ -270,12 +237,6 @@ returns-in_err-covered_from_head-clause-causes g c =
     let p = err_from_is_err_and c.from_residual-in_err-covered_from_head.result c.from_residual-in_err-covered_from_head.ensures.1 in
     ends_by_after _ _ _ _ _ c.read_header.ensures.ends.later c.in_ok-header.ensures.ends.cause (ends_handed _ _ c.covered_from_head.result c.from_residual-in_err-covered_from_head.result _ _ c.in_err-covered_from_head.was p.1 p.2 c.covered_from_head.ensures.ends)
 
-pub returns-then-not-branch-clause-fault : goal.returns-then-not-branch-clause-fault
-returns-then-not-branch-clause-fault g c = tt
-
-pub returns-then-not-branch-clause-table : goal.returns-then-not-branch-clause-table
-returns-then-not-branch-clause-table g c = refl
-
 pub returns-then-not-branch-clause-before : goal.returns-then-not-branch-clause-before
 returns-then-not-branch-clause-before g c = undoes_same (g.R.RegionWords.count c.args.r.now) (g.R.RegionWords.words c.args.r.now) (g.R.RegionWords.words c.covered_from_head.new.r) c.requires.fits.region (c.covered_from_head.ensures.words ∙ c.read_header.ensures.words)
 
@@ -288,12 +249,6 @@ returns-then-not-branch-clause-stays g c = stays_trans g.met.R.RegionWords.rest_
 pub returns-then-not-branch-clause-causes : goal.returns-then-not-branch-clause-causes
 returns-then-not-branch-clause-causes g c = told_ends {T = ℕ} _ _ (Err NotCovered) tt (le_trans c.read_header.ensures.ends.later c.covered_from_head.ensures.ends.later) (c.in_ok-covered_from_head.ensures.ends.cause ∙ c.in_ok-header.ensures.ends.cause)
 
-pub put_bytes-requires-clause-ready : goal.put_bytes-requires-clause-ready
-put_bytes-requires-clause-ready g c = c.covered_from_head.ensures.stays.ready
-
-pub put_bytes-requires-clause-region : goal.put_bytes-requires-clause-region
-put_bytes-requires-clause-region g c = c.covered_from_head.ensures.region
-
 pub put_bytes-requires-clause-undo : goal.put_bytes-requires-clause-undo
 put_bytes-requires-clause-undo g c = c.in_ok-header.ensures.header.undo ∙ sym (ap (λ (w : RegionContent). w 1) (c.covered_from_head.ensures.words ∙ c.read_header.ensures.words))
 
@@ -305,17 +260,11 @@ put_bytes-requires-clause-covered g c =
     let all = is_yes c.in_ok-covered_from_head.field-0 _ _ c.if-not-branch.false c.in_ok-covered_from_head.ensures.value in
     subst (λ k. CoversAll (undo_records (g.R.RegionWords.words c.covered_from_head.new.r)) c.in_ok-span.span.place k) c.in_ok-span.ensures.count (subst (λ (w : RegionContent). CoversAll (undo_records w) c.in_ok-span.span.place c.in_ok-span.span.count) (sym c.covered_from_head.ensures.words) all)
 
-pub returns-in-Ok-clause-table : goal.returns-in-Ok-clause-table
-returns-in-Ok-clause-table g c = refl
-
 pub returns-in-Ok-clause-before : goal.returns-in-Ok-clause-before
 returns-in-Ok-clause-before g c = undoes_from (g.R.RegionWords.count c.args.r.now) (g.R.RegionWords.count c.covered_from_head.new.r) (g.R.RegionWords.words c.covered_from_head.new.r) (g.R.RegionWords.words c.args.r.now) (g.R.RegionWords.words c.put_bytes.new.r) (c.covered_from_head.ensures.words ∙ c.read_header.ensures.words) (c.covered_from_head.ensures.stays.count ∙ c.read_header.ensures.stays.count) c.put_bytes.ensures.keeps.undoes
 
 pub returns-in-Ok-clause-stays : goal.returns-in-Ok-clause-stays
 returns-in-Ok-clause-stays g c = stays_trans g.met.R.RegionWords.rest_trans (stays_trans g.met.R.RegionWords.rest_trans c.read_header.ensures.stays c.covered_from_head.ensures.stays) c.put_bytes.ensures.stays
-
-pub returns-in-Err-Fault-clause-table : goal.returns-in-Err-Fault-clause-table
-returns-in-Err-Fault-clause-table g c = refl
 
 pub returns-in-Err-Fault-clause-before : goal.returns-in-Err-Fault-clause-before
 returns-in-Err-Fault-clause-before g c = undoes_from (g.R.RegionWords.count c.args.r.now) (g.R.RegionWords.count c.covered_from_head.new.r) (g.R.RegionWords.words c.covered_from_head.new.r) (g.R.RegionWords.words c.args.r.now) (g.R.RegionWords.words c.put_bytes.new.r) (c.covered_from_head.ensures.words ∙ c.read_header.ensures.words) (c.covered_from_head.ensures.stays.count ∙ c.read_header.ensures.stays.count) c.put_bytes.ensures.keeps.undoes
@@ -323,26 +272,11 @@ returns-in-Err-Fault-clause-before g c = undoes_from (g.R.RegionWords.count c.ar
 pub returns-in-Err-Fault-clause-stays : goal.returns-in-Err-Fault-clause-stays
 returns-in-Err-Fault-clause-stays g c = stays_trans g.met.R.RegionWords.rest_trans (stays_trans g.met.R.RegionWords.rest_trans c.read_header.ensures.stays c.covered_from_head.ensures.stays) c.put_bytes.ensures.stays
 
-pub returns-in-Err-Stopped-clause-table : goal.returns-in-Err-Stopped-clause-table
-returns-in-Err-Stopped-clause-table g c = refl
-
 pub returns-in-Err-Stopped-clause-before : goal.returns-in-Err-Stopped-clause-before
 returns-in-Err-Stopped-clause-before g c = undoes_from (g.R.RegionWords.count c.args.r.now) (g.R.RegionWords.count c.covered_from_head.new.r) (g.R.RegionWords.words c.covered_from_head.new.r) (g.R.RegionWords.words c.args.r.now) (g.R.RegionWords.words c.put_bytes.new.r) (c.covered_from_head.ensures.words ∙ c.read_header.ensures.words) (c.covered_from_head.ensures.stays.count ∙ c.read_header.ensures.stays.count) c.put_bytes.ensures.keeps.undoes
 
 pub returns-in-Err-Stopped-clause-stays : goal.returns-in-Err-Stopped-clause-stays
 returns-in-Err-Stopped-clause-stays g c = stays_trans g.met.R.RegionWords.rest_trans (stays_trans g.met.R.RegionWords.rest_trans c.read_header.ensures.stays c.covered_from_head.ensures.stays) c.put_bytes.ensures.stays
-
-pub returns-in-Ok-clause-fault : goal.returns-in-Ok-clause-fault
-returns-in-Ok-clause-fault g c = tt
-
-pub returns-in-Err-Fault-clause-ends : goal.returns-in-Err-Fault-clause-ends
-returns-in-Err-Fault-clause-ends g c = tt
-
-pub returns-in-Err-Stopped-clause-ends : goal.returns-in-Err-Stopped-clause-ends
-returns-in-Err-Stopped-clause-ends g c = tt
-
-pub returns-in-Err-Stopped-clause-fault : goal.returns-in-Err-Stopped-clause-fault
-returns-in-Err-Stopped-clause-fault g c = tt
 
 pub returns-in-Err-Stopped-clause-fits : goal.returns-in-Err-Stopped-clause-fits
 returns-in-Err-Stopped-clause-fits g c = λ runs. absurd (runs refl)

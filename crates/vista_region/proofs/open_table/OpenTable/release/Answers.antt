@@ -50,12 +50,6 @@ returns-in_err-active-clause-causes g c =
     let p = err_from_is_err_and c.from_residual.result c.from_residual.ensures.1 in
     told_ends _ _ c.from_residual.result (told_active c.args.self.now c.args.i.0 c.active.result c.from_residual.result _ _ c.in_err-active.was p.1 p.2 c.active.ensures) (le_refl _) refl
 
-pub give_block-given-requires-clause-ready : goal.give_block-given-requires-clause-ready
-give_block-given-requires-clause-ready g c = c.requires.ready
-
-pub give_block-given-requires-clause-region : goal.give_block-given-requires-clause-region
-give_block-given-requires-clause-region g c = c.requires.fits.region
-
 pub give_block-given-requires-clause-heap : goal.give_block-given-requires-clause-heap
 give_block-given-requires-clause-heap g c = c.requires.fits.heap (is_open c.args.self.now c.args.i.0 c.active.result c.in_ok-active.field-0 c.in_ok-active.was c.active.ensures)
 
@@ -70,12 +64,6 @@ returns-clause-table g c = λ calm. c.dooming.ensures.kept (λ fault. calm (subs
 
 pub returns-clause-doomed : goal.returns-clause-doomed
 returns-clause-doomed g c = doomed_fault c.give_block-given.result c.dooming.result (λ k. (k ≡ 0) × ((b : Bool) × (mark_of c.args.self.now c.args.i.0 ≡ Some b)) × (c.dooming.new.self ≡ set_mark c.args.self.now c.args.i.0 (Some true))) c.dooming.ensures.same c.give_block-given.ensures.fault (λ fault. (refl, (false, is_open c.args.self.now c.args.i.0 c.active.result c.in_ok-active.field-0 c.in_ok-active.was c.active.ensures), c.dooming.ensures.doomed fault))
-
-pub returns-clause-before : goal.returns-clause-before
-returns-clause-before g c = c.give_block-given.ensures.before
-
-pub returns-clause-stays : goal.returns-clause-stays
-returns-clause-stays g c = c.give_block-given.ensures.stays
 
 pub returns-clause-causes : goal.returns-clause-causes
 returns-clause-causes g c = subst (λ r. EndsBy (g.R.RegionWords.health c.args.r.now) (g.R.RegionWords.health c.give_block-given.new.r) (IsFault r) (IsErrOf r Stopped)) (sym c.dooming.ensures.same) c.give_block-given.ensures.causes

@@ -89,9 +89,6 @@ returns-in_err-active-clause-fault g c =
     let p = err_from_is_err_and c.from_residual.result c.from_residual.ensures.1 in
     told_quiet c.from_residual.result _ (told_active c.args.self.now c.args.i.0 c.active.result c.from_residual.result _ _ c.in_err-active.was p.1 p.2 c.active.ensures)
 
-pub returns-in_err-active-clause-table : goal.returns-in_err-active-clause-table
-returns-in_err-active-clause-table g c = refl
-
 pub returns-in_err-active-clause-before : goal.returns-in_err-active-clause-before
 returns-in_err-active-clause-before g c = undoes_refl (g.R.RegionWords.count c.args.r.now) (g.R.RegionWords.words c.args.r.now) c.requires.fits.region
 
@@ -111,9 +108,6 @@ returns-in_err-whole_words-clause-fault g c =
     let p = err_from_is_err_and c.from_residual-in_err-whole_words.result c.from_residual-in_err-whole_words.ensures.1 in
     told_quiet c.from_residual-in_err-whole_words.result _ (told_words c.args.off c.args.len c.whole_words.result c.from_residual-in_err-whole_words.result _ _ c.in_err-whole_words.was p.1 p.2 c.whole_words.ensures)
 
-pub returns-in_err-whole_words-clause-table : goal.returns-in_err-whole_words-clause-table
-returns-in_err-whole_words-clause-table g c = refl
-
 pub returns-in_err-whole_words-clause-before : goal.returns-in_err-whole_words-clause-before
 returns-in_err-whole_words-clause-before g c = undoes_refl (g.R.RegionWords.count c.args.r.now) (g.R.RegionWords.words c.args.r.now) c.requires.fits.region
 
@@ -128,12 +122,6 @@ returns-in_err-whole_words-clause-causes g c =
     let p = err_from_is_err_and c.from_residual-in_err-whole_words.result c.from_residual-in_err-whole_words.ensures.1 in
     told_ends _ _ c.from_residual-in_err-whole_words.result (told_words c.args.off c.args.len c.whole_words.result c.from_residual-in_err-whole_words.result _ _ c.in_err-whole_words.was p.1 p.2 c.whole_words.ensures) (le_refl _) refl
 
-pub read_header-requires-clause-ready : goal.read_header-requires-clause-ready
-read_header-requires-clause-ready g c = c.requires.ready
-
-pub read_header-requires-clause-region : goal.read_header-requires-clause-region
-read_header-requires-clause-region g c = c.requires.fits.region
-
 pub returns-in_err-header-clause-ends : goal.returns-in_err-header-clause-ends
 returns-in_err-header-clause-ends g c =
     let p = err_from_is_err_and c.from_residual-in_err-header.result c.from_residual-in_err-header.ensures.1 in
@@ -144,17 +132,11 @@ returns-in_err-header-clause-fault g c =
     let p = err_from_is_err_and c.from_residual-in_err-header.result c.from_residual-in_err-header.ensures.1 in
     handed_fault c.read_header.result c.from_residual-in_err-header.result _ _ (λ k. (k ≡ 0) × (region_now (g.R.RegionWords.words c.read_header.new.r) ≡ region_now (g.R.RegionWords.words c.args.r.now)) × (txn_in c.args.self.now c.args.i.0 (g.R.RegionWords.words c.read_header.new.r) ≡ txn_in c.args.self.now c.args.i.0 (g.R.RegionWords.words c.args.r.now))) c.in_err-header.was p.1 p.2 (λ fault. (refl, ap region_now c.read_header.ensures.words, ap (txn_in c.args.self.now c.args.i.0) c.read_header.ensures.words))
 
-pub returns-in_err-header-clause-table : goal.returns-in_err-header-clause-table
-returns-in_err-header-clause-table g c = refl
-
 pub returns-in_err-header-clause-before : goal.returns-in_err-header-clause-before
 returns-in_err-header-clause-before g c = undoes_same (g.R.RegionWords.count c.args.r.now) (g.R.RegionWords.words c.args.r.now) (g.R.RegionWords.words c.read_header.new.r) c.requires.fits.region c.read_header.ensures.words
 
 pub returns-in_err-header-clause-fits : goal.returns-in_err-header-clause-fits
 returns-in_err-header-clause-fits g c = λ runs. fits_same c.args.self.now c.args.i.0 (g.R.RegionWords.count c.args.r.now) (g.R.RegionWords.count c.read_header.new.r) (g.R.RegionWords.words c.args.r.now) (g.R.RegionWords.words c.read_header.new.r) c.read_header.ensures.stays.count c.read_header.ensures.words c.requires.fits
-
-pub returns-in_err-header-clause-stays : goal.returns-in_err-header-clause-stays
-returns-in_err-header-clause-stays g c = c.read_header.ensures.stays
 
 pub returns-in_err-header-clause-causes : goal.returns-in_err-header-clause-causes
 returns-in_err-header-clause-causes g c =
@@ -169,37 +151,22 @@ returns-in_err-span-clause-fault g c =
     let p = err_from_is_err_and c.from_residual-in_err-span.result c.from_residual-in_err-span.ensures.1 in
     told_quiet c.from_residual-in_err-span.result _ (told_past c.from_residual-in_err-span.result _ _ p.1 p.2 c.in_err-span.ensures.0)
 
-pub returns-in_err-span-clause-table : goal.returns-in_err-span-clause-table
-returns-in_err-span-clause-table g c = refl
-
 pub returns-in_err-span-clause-before : goal.returns-in_err-span-clause-before
 returns-in_err-span-clause-before g c = undoes_same (g.R.RegionWords.count c.args.r.now) (g.R.RegionWords.words c.args.r.now) (g.R.RegionWords.words c.read_header.new.r) c.requires.fits.region c.read_header.ensures.words
 
 pub returns-in_err-span-clause-fits : goal.returns-in_err-span-clause-fits
 returns-in_err-span-clause-fits g c = λ runs. fits_same c.args.self.now c.args.i.0 (g.R.RegionWords.count c.args.r.now) (g.R.RegionWords.count c.read_header.new.r) (g.R.RegionWords.words c.args.r.now) (g.R.RegionWords.words c.read_header.new.r) c.read_header.ensures.stays.count c.read_header.ensures.words c.requires.fits
 
-pub returns-in_err-span-clause-stays : goal.returns-in_err-span-clause-stays
-returns-in_err-span-clause-stays g c = c.read_header.ensures.stays
-
 pub returns-in_err-span-clause-causes : goal.returns-in_err-span-clause-causes
 returns-in_err-span-clause-causes g c =
     let p = err_from_is_err_and c.from_residual-in_err-span.result c.from_residual-in_err-span.ensures.1 in
     told_ends _ _ c.from_residual-in_err-span.result (told_past c.from_residual-in_err-span.result _ _ p.1 p.2 c.in_err-span.ensures.0) c.read_header.ensures.ends.later c.in_ok-header.ensures.ends.cause
-
-pub set_range_by_header-requires-clause-ready : goal.set_range_by_header-requires-clause-ready
-set_range_by_header-requires-clause-ready g c = c.read_header.ensures.stays.ready
-
-pub set_range_by_header-requires-clause-region : goal.set_range_by_header-requires-clause-region
-set_range_by_header-requires-clause-region g c = c.read_header.ensures.region
 
 pub set_range_by_header-requires-clause-header : goal.set_range_by_header-requires-clause-header
 set_range_by_header-requires-clause-header g c = subst (λ (w : RegionContent). IsHeader w c.in_ok-header.header) (sym c.read_header.ensures.words) c.in_ok-header.ensures.header
 
 pub set_range_by_header-requires-clause-place : goal.set_range_by_header-requires-clause-place
 set_range_by_header-requires-clause-place g c = subst (λ (w : RegionContent). c.in_ok-span.span.place + c.in_ok-span.span.count ≤ places w) (sym c.read_header.ensures.words) (subst (λ d. c.in_ok-span.span.place + c.in_ok-span.span.count ≤ 512 * (map_pages d + d)) c.in_ok-header.ensures.header.data_pages c.in_ok-span.ensures.within)
-
-pub returns-in_err-set_range_by_header-clause-table : goal.returns-in_err-set_range_by_header-clause-table
-returns-in_err-set_range_by_header-clause-table g c = refl
 
 pub returns-in_err-set_range_by_header-clause-before : goal.returns-in_err-set_range_by_header-clause-before
 returns-in_err-set_range_by_header-clause-before g c = undoes_from (g.R.RegionWords.count c.args.r.now) (g.R.RegionWords.count c.read_header.new.r) (g.R.RegionWords.words c.read_header.new.r) (g.R.RegionWords.words c.args.r.now) (g.R.RegionWords.words c.set_range_by_header.new.r) c.read_header.ensures.words c.read_header.ensures.stays.count c.set_range_by_header.ensures.before
@@ -215,9 +182,6 @@ returns-in_err-set_range_by_header-clause-causes g c =
     let p = err_from_is_err_and c.from_residual-in_err-set_range_by_header.result c.from_residual-in_err-set_range_by_header.ensures.1 in
     ends_by_after _ _ _ _ _ c.read_header.ensures.ends.later c.in_ok-header.ensures.ends.cause (ends_undo _ _ c.set_range_by_header.result c.from_residual-in_err-set_range_by_header.result _ _ c.in_err-set_range_by_header.was p.1 p.2 c.set_range_by_header.ensures.ends)
 
-pub returns-clause-table : goal.returns-clause-table
-returns-clause-table g c = refl
-
 pub returns-clause-before : goal.returns-clause-before
 returns-clause-before g c = undoes_from (g.R.RegionWords.count c.args.r.now) (g.R.RegionWords.count c.read_header.new.r) (g.R.RegionWords.words c.read_header.new.r) (g.R.RegionWords.words c.args.r.now) (g.R.RegionWords.words c.set_range_by_header.new.r) c.read_header.ensures.words c.read_header.ensures.stays.count c.set_range_by_header.ensures.before
 
@@ -226,9 +190,6 @@ returns-clause-fits g c = λ runs. fits_range c.args.self.now c.args.i.0 (g.R.Re
 
 pub returns-clause-stays : goal.returns-clause-stays
 returns-clause-stays g c = stays_trans g.met.R.RegionWords.rest_trans c.read_header.ensures.stays c.set_range_by_header.ensures.stays
-
-pub returns-clause-fault : goal.returns-clause-fault
-returns-clause-fault g c = tt
 
 pub returns-clause-causes : goal.returns-clause-causes
 returns-clause-causes g c = told_ends {T = Unit {0}} _ _ (Ok tt) tt (le_trans c.read_header.ensures.ends.later c.set_range_by_header.ensures.ends.later) (c.in_ok-set_range_by_header.ensures.ends.runs (ok_apart c.in_ok-set_range_by_header.field-0 UndoStopped) ∙ c.in_ok-header.ensures.ends.cause)
