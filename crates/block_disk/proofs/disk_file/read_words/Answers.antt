@@ -1,4 +1,4 @@
-use Rattle.std.proofs.Common.{◌*◌, arith, le_refl, refl}
+use Rattle.std.proofs.Common.{◌*◌, arith, le_refl}
 use Rattle.std.proofs.lemmas.Result.{err_from_is_err_and}
 use Rattle.block_disk.proofs.Ends.{fails_as, none_made}
 use Rattle.block_disk.proofs.disk_file.read_words.Goals as goal

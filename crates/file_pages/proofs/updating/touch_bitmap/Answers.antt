@@ -2,7 +2,7 @@ use Rattle.rio_base.specs.Rules.{firm_refl, goes_refl}
 use Rattle.rio_base.proofs.Rules.{looks_refl}
 use Rattle.rio_base.proofs.BlockRules.{caches_refl}
 use Rattle.node_pages.proofs.EndsOn.{on_ok, vol_still}
-use Rattle.file_pages.proofs.Common.{arith, inr, refl}
+use Rattle.file_pages.proofs.Common.{arith, inr}
 use Rattle.node_pages.proofs.Updated.{touched_now}
 use Rattle.file_pages.proofs.Touched.{touches_most}
 use Rattle.file_pages.proofs.updating.touch_bitmap.Goals as goal

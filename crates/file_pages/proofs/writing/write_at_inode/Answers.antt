@@ -1,4 +1,4 @@
-use Rattle.file_pages.proofs.Common.{◌≡◌, ◌+◌, ◌<◌, ◌∙◌, length, sym, subst, arith, err_from_is_err_and, free_blocks, IsIno, placed_at, inr, refl}
+use Rattle.file_pages.proofs.Common.{◌≡◌, ◌+◌, ◌<◌, ◌∙◌, length, sym, subst, arith, err_from_is_err_and, free_blocks, IsIno, placed_at, inr}
 use Rattle.node_pages.specs.Changes.{wanted_blocks}
 use Rattle.file_pages.specs.Files.{HasSpace, file_bytes}
 use Rattle.node_pages.specs.declared.failures.WriteFail.TheVariants.{NoSpace, TooLarge}

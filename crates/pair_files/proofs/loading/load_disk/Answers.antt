@@ -1,4 +1,4 @@
-use Rattle.std.proofs.Common.{◌∙◌, le_refl, refl}
+use Rattle.std.proofs.Common.{◌∙◌, le_refl}
 use Rattle.pair_files.proofs.LoadRules.{disk_loaded, disk_missed}
 use Rattle.pair_files.proofs.loading.load_disk.Goals as goal
 

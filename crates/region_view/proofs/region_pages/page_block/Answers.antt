@@ -1,4 +1,4 @@
-use Rattle.region_view.proofs.Common.{can_look_up, refl}
+use Rattle.region_view.proofs.Common.{can_look_up}
 use Rattle.node_pages.proofs.EndsOn.{vol_still}
 use Rattle.region_view.proofs.RegionPlaces.{can_looked, direct_page, page_owned, word_pages}
 use Rattle.region_view.proofs.region_pages.page_block.Goals as goal
