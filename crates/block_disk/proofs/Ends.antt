@@ -1,7 +1,7 @@
 -- What follows at one outcome of a call.
 use Rattle.std.specs.Prelude.{◌≡◌, ◌≤◌, ℕ, List, Option, Result, Ok, Err, IfOk, IfErr, IsErr, OnErr, OnOk}
 use Rattle.std.proofs.Common.{le_trans, subst, sym}
-use Rattle.rio_base.specs.Counts.{HasCause, Rose}
+use Rattle.rio_base.specs.Failures.{HasCause, Rose}
 use Rattle.rio_base.specs.Disks.{HasFaultCause}
 use Rattle.rio_base.proofs.Rules.{rose_later}
 use Rattle.rio_base.specs.Hosts.{Files, HasSize}

@@ -3,10 +3,9 @@ use Rattle.std.specs.Prelude.{◌≡◌, ◌<◌, ◌≤◌, ℕ, ◌+◌, ◌-�
 use Rattle.std.specs.List.{list_any}
 use Rattle.std.proofs.Common.{arith, ap, sym, subst, ◌∙◌, inl, inr, le_refl, eqb-true, ltb-true}
 use Rattle.std.proofs.lemmas.Bool.{cases_lt}
-use Rattle.rio_base.specs.Counts.{HasCause, Rose}
+use Rattle.rio_base.specs.Failures.{FailsIf, HasCause, Rose, is_due}
 use Rattle.rio_base.specs.Disks.{FaultCount, FaultsLast, HasFaultCause, raised}
 use Rattle.rio_base.specs.Rules.{true_false}
-use Rattle.rio_base.specs.FailingCalls.{FailsIf, is_due}
 use Rattle.block_disk.specs.MemDisks.{MemDiskState, contents_of, counted, is_read_due, most_faults, reads_left, upcoming, with_block}
 
 -- 1 for a call that is still to come

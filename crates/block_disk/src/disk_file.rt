@@ -3,7 +3,7 @@
 ghost use Rattle.std.specs.Prelude.{◌≡◌, ◌≢◌, ◌<◌, ◌≤◌, ◌↔◌, ◌+◌, ◌*◌, ◌^◌, ℕ, [], Some, IfOk, IfErr, IsTrue, OnOk, length, take, drop, slice_index};
 ghost use Rattle.std.specs.String.{string_bytes};
 ghost use Rattle.rio_base.specs.Bytes.{bytes_of};
-ghost use Rattle.rio_base.specs.Counts.{HasCause, Rose};
+ghost use Rattle.rio_base.specs.Failures.{HasCause, Rose};
 ghost use Rattle.rio_base.specs.Hosts.{HasBytes, HasSize, IsFile};
 ghost use Rattle.rio_base.specs.Memory.{page_at};
 ghost use Rattle.block_disk.specs.HostDisks.{AreFileWords, FailsAs, FitsFile, HasBlock, IsDiskLength, IsLong, OnHost, around_of};

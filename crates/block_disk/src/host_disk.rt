@@ -2,7 +2,7 @@
 
 ghost use Rattle.std.specs.Prelude.{◌≡◌, ◌<◌, ◌≤◌, ◌*◌, ◌+◌, ◌/◌, ◌^◌, ℕ, true, false, List, IsOk, IfOk, IfErr, OnOk, length, replicate, slice_index};
 ghost use Rattle.std.specs.String.{string_bytes};
-ghost use Rattle.rio_base.specs.Counts.{Rose};
+ghost use Rattle.rio_base.specs.Failures.{Rose};
 ghost use Rattle.rio_base.specs.Disks.{HasFaultCause, block_at, blocks_of, is_pending};
 ghost use Rattle.rio_base.specs.Memory.{FrontStored, page_at};
 ghost use Rattle.block_disk.specs.HostDisks.{AreFileWords, FailsAs, HasSettled, IsDiskLength, OnHost, around_of, file_contents};

@@ -1,9 +1,8 @@
 //! A disk in memory.
 
 ghost use Rattle.std.specs.Prelude.{◌≡◌, ◌<◌, ◌^◌, ◌/◌, ◌||◌, ℕ, [], ◌∷◌, ◌++◌, false, true, IsOk, IfOk, OnOk, OnErr, length, replicate, slice_set};
-ghost use Rattle.rio_base.specs.Counts.{HasCause};
+ghost use Rattle.rio_base.specs.Failures.{FailsIf, HasCause, is_due};
 ghost use Rattle.rio_base.specs.Disks.{HasFaultCause, block_at, raised};
-ghost use Rattle.rio_base.specs.FailingCalls.{FailsIf, is_due};
 ghost use Rattle.block_disk.specs.BlockLists.{AreSettled, AreWhole, rows, torn_words};
 
 use crate::block_lists::{

@@ -1,8 +1,22 @@
--- What every board keeps.
-use Rattle.std.specs.Prelude.{◌≡◌, ℕ, ◌+◌, ◌*◌, ◌^◌, ◌%◌, ◌<◌, ◌≤◌, List, length, take, drop}
+-- What callers read of a board beside what every machine has, and what every board keeps.
+use Rattle.std.specs.Prelude.{ℕ, ◌≡◌, ◌+◌, ◌*◌, ◌^◌, ◌%◌, ◌<◌, ◌≤◌, List, length, take, drop}
 use Rattle.std.proofs.Common.{arith, sym, subst, length-drop}
 use Rattle.std.proofs.lemmas.List.{length-take}
+use Rattle.board.specs.declared.board.Board.{Board}
+use Rattle.board.specs.declared.guard.Guard.{Guard}
 use Rattle.board.specs.Boards.{protected_count}
+
+-- ---- what callers read
+
+-- its guard: the open page, the steps, and what may stop it
+abbrev pub guard_of : {F D : Type 0} {m n : _} → Board F D m n → Guard
+guard_of b = b.guard
+
+-- how many wild stores fell on the page that was open, up to the largest u64
+abbrev pub spared_of : {F D : Type 0} {m n : _} → Board F D m n → ℕ
+spared_of b = b.guard.spared
+
+-- ---- what every board keeps
 
 pub count_protected : (words : List ℕ) (pages : ℕ) → protected_count words pages ≡ length (take (protected_count words pages) words)
 count_protected words pages = omega (arith, length-take (protected_count words pages) words)

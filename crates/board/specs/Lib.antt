@@ -1,4 +1,3 @@
 pub mod BoardLaws
-pub mod BoardWords
 pub mod Boards
 pub mod Guards

@@ -36,7 +36,7 @@ pub struct Board<F: MemWords, D: DiskBlocks> {
 }
 
 impl<F: MemWords, D: DiskBlocks> Board<F, D> {
-    ghost use Rattle.board.specs.BoardWords.{guard_of, spared_of};
+    ghost use Rattle.board.specs.BoardLaws.{guard_of, spared_of};
 
     /// A board whose last `scratch` pages are not protected, with no page open. With `stop_after` it stops where a step
     /// is asked for beyond that many.
@@ -148,8 +148,7 @@ impl<F: MemWords, D: DiskBlocks> Board<F, D> {
 }
 
 impl<F: MemWords, D: DiskBlocks> Machine for Board<F, D> {
-    ghost use Rattle.board.specs.BoardWords.{guard_of};
-    ghost use Rattle.board.specs.BoardLaws.{count_protected, count_small, page_within, pages_protected, pages_scratch};
+    ghost use Rattle.board.specs.BoardLaws.{count_protected, count_small, guard_of, page_within, pages_protected, pages_scratch};
 
     ghost contents = { λ b. contents_of (F.words b.mem) b.scratch (D.contents b.disk) b.guard };
 

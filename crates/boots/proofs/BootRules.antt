@@ -2,7 +2,7 @@
 use Rattle.std.proofs.Common.{◌≡◌, ◌≤◌, ◌*◌, ◌-◌, ℕ, true, false, nat_lt, List, [], ◌∷◌, ◌++◌, refl, sym, ap, ◌∙◌, inl, inr, arith}
 use Rattle.std.specs.Prelude.{is_some, Any, Option, Some, None, ◌⊎◌}
 use Rattle.rio_base.specs.Blocks.{Health}
-use Rattle.rio_base.specs.Counts.{RoseBy}
+use Rattle.rio_base.specs.Failures.{RoseBy}
 use Rattle.rio_base.specs.Machine.{Running}
 use Rattle.rio_base.specs.Volume.{Below, Runs}
 use Rattle.rio_base.specs.Rules.{limit_trans}

@@ -1,6 +1,6 @@
 -- A boot whose reboot failed, and sizes that stay.
 use Rattle.std.proofs.Common.{◌≡◌, ◌≤◌, ◌+◌, ℕ, false, List, length, refl, sym, ap, subst, ◌∙◌, inl, inr, arith}
-use Rattle.rio_base.specs.Counts.{Rose, RoseBy}
+use Rattle.rio_base.specs.Failures.{Rose, RoseBy}
 use Rattle.rio_base.specs.Machine.{Contents, Running}
 use Rattle.rio_base.specs.Volume.{MemorySizes, Runs}
 use Rattle.rio_model.specs.declared.state.State.{State}

@@ -6,15 +6,14 @@ use Rattle.rio_base.specs.Blocks.{BlockWords, Ends}
 use Rattle.rio_base.specs.declared.failures.VolFail.{VolFail}
 use Rattle.rio_base.specs.declared.failures.VolFail.TheVariants.{Fault, Stopped}
 use Rattle.rio_base.specs.Disks.{FaultCount, FaultsLast}
-use Rattle.rio_base.specs.Counts.{Rose}
+use Rattle.rio_base.specs.Failures.{Rose}
 use Rattle.rio_base.specs.Layout.{IsIno, inode_kind, inode_size}
 use Rattle.rio_base.specs.Machine.{Contents, Running}
 use Rattle.rio_base.specs.Rules.{true_false}
 use Rattle.rio_base.specs.Shapes.{HasShape}
 use Rattle.rio_base.specs.declared.places.VolumeShape.{VolumeShape}
 use Rattle.rio_model.specs.declared.state.State.{State}
-use Rattle.rio_model.specs.Held.{Held, byte_in, held_of}
-use Rattle.rio_model.specs.HeldRules.{held_ino}
+use Rattle.rio_model.specs.Held.{Held, byte_in, held_ino, held_of}
 use Rattle.rio_model.specs.Placed.{volume_layout}
 use Rattle.rio_model.specs.Sizes.{largest_size}
 use Rattle.rio_model.specs.Standing.{StandsFor}
@@ -26,7 +25,7 @@ use Rattle.registry.specs.Views.{Viewed, view_health, view_seen}
 use Rattle.warm_reboot.specs.Examining.{TellsNoRule, Unexamined}
 use Rattle.warm_reboot.specs.declared.report.BootFail.{BootFail}
 use Rattle.warm_reboot.specs.declared.report.BootFail.TheVariants.{BadImage, BadVolume, Fault as BootFault, Memory, Stopped as BootStopped}
-use Rattle.boots.specs.FileBytes.{bytes_in}
+use Rattle.boots.specs.Legal.{bytes_in}
 use Rattle.boots.specs.Parts.{NeverFails}
 
 -- ---- one inode

@@ -15,7 +15,7 @@ use Rattle.rio_base.specs.Rules.{true_false}
 use Rattle.rio_base.specs.Shapes.{IsServed, more_bitmap, reserved}
 use Rattle.rio_model.specs.Cover.{home_word}
 use Rattle.rio_model.proofs.CoverSteps.{none_pending}
-use Rattle.rio_model.specs.FreshVolume.{IsFreshVolume}
+use Rattle.rio_model.specs.Fresh.{IsFreshVolume}
 use Rattle.rio_model.specs.VolumeRules.{bitmap_bits}
 use Rattle.rio_model.proofs.WordRules.{differs}
 use Rattle.image_codec.specs.Volume.{block_words, fresh_volume_word, fresh_volume_words}
@@ -23,7 +23,7 @@ use Rattle.block_disk.specs.declared.mem_disk.MemDisk.{MemDisk}
 use Rattle.block_disk.specs.MemDisks.{MemDiskState, state_of, words_state}
 use Rattle.rio_base.proofs.WordBlocks.{block_is, block_long, blocks_many, blocks_word}
 use Rattle.block_disk.specs.BlockLists.{AreWhole}
-use Rattle.boots.specs.FreshParts.{IsFreshDisk}
+use Rattle.boots.specs.Parts.{IsFreshDisk}
 
 -- ---- the words of a fresh volume
 

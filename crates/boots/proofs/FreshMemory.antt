@@ -17,8 +17,7 @@ use Rattle.rio_model.specs.Registry.{HasLayout, IsValid, KeepsRegistry, frames_o
 use Rattle.rio_model.specs.Standing.{Restorable}
 use Rattle.rio_model.proofs.FreshPair.{fresh_stands}
 use Rattle.rio_model.proofs.RegistryRules.{layout_of}
-use Rattle.boots.specs.FreshParts.{IsFreshDisk}
-use Rattle.boots.specs.Parts.{PartsStand}
+use Rattle.boots.specs.Parts.{IsFreshDisk, PartsStand}
 
 -- ---- an image without entries
 

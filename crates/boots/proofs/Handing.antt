@@ -4,7 +4,7 @@ use Rattle.std.specs.Prelude.{Option, Some, None, ◌⊎◌, take}
 use Rattle.std.proofs.lemmas.List.{get_or_past, length-take}
 use Rattle.std.proofs.Math.Seq.{take-append_seam}
 use Rattle.rio_base.specs.Blocks.{Health}
-use Rattle.rio_base.specs.Counts.{RoseBy}
+use Rattle.rio_base.specs.Failures.{RoseBy}
 use Rattle.rio_base.specs.Disks.{DiskContents, block_at, is_pending}
 use Rattle.rio_base.specs.Machine.{Contents, Running}
 use Rattle.rio_base.specs.Volume.{Below, LimitLasts, MemorySizes}

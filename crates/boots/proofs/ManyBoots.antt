@@ -8,8 +8,7 @@ use Rattle.boots.specs.declared.transcript.BootRun.{BootRun}
 use Rattle.boots.specs.declared.plan.LivePlan.{LivePlan}
 use Rattle.boots.specs.declared.transcript.Transcript.{Transcript}
 use Rattle.rio_model.specs.Censuses.{IsCensus}
-use Rattle.boots.specs.Legal.{BootLeads, BootsLead, Legal, first_state}
-use Rattle.boots.specs.FileBytes.{file_bytes}
+use Rattle.boots.specs.Legal.{BootLeads, BootsLead, Legal, file_bytes, first_state}
 
 boots_push : (s t u : State) (plans : List BootPlan) (runs : List BootRun) (plan : BootPlan) (run : BootRun) → BootsLead s plans runs t → BootLeads t plan run u → BootsLead s (plans ++ plan ∷ []) (runs ++ run ∷ []) u
 boots_push s t u [] [] plan run same leads = (u, subst (λ (x : State). BootLeads x plan run u) same leads, refl)

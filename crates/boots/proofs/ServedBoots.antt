@@ -2,7 +2,7 @@
 use Rattle.std.proofs.Common.{◌≡◌, ◌≤◌, ◌+◌, ◌-◌, ◌*◌, ℕ, nat_lt, List, [], ◌∷◌, length, refl, ap, subst, ◌∙◌, inl, inr, arith}
 use Rattle.std.specs.Prelude.{map, Option, Some, None}
 use Rattle.rio_base.specs.Blocks.{Health, Seen}
-use Rattle.rio_base.specs.Counts.{RoseBy}
+use Rattle.rio_base.specs.Failures.{RoseBy}
 use Rattle.rio_base.specs.Machine.{Contents, Running}
 use Rattle.rio_base.specs.Rules.{limit_trans}
 use Rattle.rio_base.specs.Volume.{Below, Kept, Settled}

@@ -1,6 +1,6 @@
 -- What was sent of a text, as a drill's end.
 use Rattle.std.proofs.Common.{◌≡◌, ℕ, List, [], ◌++◌, Option, Result, Ok, Err, refl, ap, inl, inr}
-use Rattle.rio_base.specs.Counts.{Rose}
+use Rattle.rio_base.specs.Failures.{Rose}
 use Rattle.request_codec.specs.Sending.{Sends}
 use Rattle.request_codec.proofs.Sendings.{sends_cut, sends_ok}
 use Rattle.boots.specs.declared.transcript.BootRun.{BootRun}

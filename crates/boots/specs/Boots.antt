@@ -1,19 +1,37 @@
--- One boot on a machine: how it ends, and what it does to the machine.
+-- One boot on a machine: how it ends, what it does to the machine, and what the core over it holds.
 use Rattle.std.specs.Prelude.{◌≡◌, ◌⊎◌, ℕ, ◌/◌, ◌++◌, true, List, [], ◌∷◌, map, Option, Some, None}
+use Rattle.rio_base.specs.Machine.{Contents, Running}
+use Rattle.rio_base.specs.declared.places.VolumeShape.{VolumeShape}
 use Rattle.rio_base.specs.Blocks.{Causes, Health}
-use Rattle.rio_base.specs.Counts.{RoseBy}
+use Rattle.rio_base.specs.Failures.{RoseBy}
 use Rattle.rio_base.specs.Volume.{Below, LimitLasts}
 use Rattle.rio_model.specs.declared.state.State.{State}
+use Rattle.rio_requests.specs.Crash.{crashed}
 use Rattle.rio_requests.specs.declared.reply.Reply.{Reply}
 use Rattle.rio_requests.specs.declared.request.Request.{Request}
 use Rattle.rio_requests.specs.Parts.{IsPart}
 use Rattle.rio_requests.specs.Went.{StoppedOn, Went}
+use Rattle.cached_pages.specs.Caches.{cache_below, cache_health, cache_kept, cache_seen}
+use Rattle.cached_pages.specs.declared.tables.CacheTables.{CacheTables}
+use Rattle.request_ends.specs.Ends.{Stands}
+use Rattle.vista_region.specs.Marks.{Marks}
+use Rattle.warm_reboot.specs.declared.report.BootFail.{BootFail}
+use Rattle.warm_reboot.specs.declared.report.BootFail.TheVariants.{Fault, Stopped}
+use Rattle.rio_core.specs.Serving.{Holds}
 use Rattle.boots.specs.declared.transcript.BootEnd.{BootEnd}
 use Rattle.boots.specs.declared.transcript.BootEnd.TheVariants.{BootFault, Served, Stopped as BootStopped}
 use Rattle.boots.specs.declared.transcript.BootRun.{BootRun}
-use Rattle.warm_reboot.specs.declared.report.BootFail.{BootFail}
-use Rattle.warm_reboot.specs.declared.report.BootFail.TheVariants.{Fault, Stopped}
 use Rattle.boots.specs.Legal.{AreFirst, BootEnds, LeadTo, boot_faults, replies_of, requests_of}
+
+-- ---- a core over a machine with these tables
+
+-- the core has this shape and this table of open transactions
+abbrev pub CoreHolds : VolumeShape → Contents → Running → CacheTables → Marks → State → Type 0
+CoreHolds shape c r tables marks s = Holds shape (cache_seen c) (cache_kept c tables) (cache_health c r) (cache_below c r) marks s
+
+-- what a stop leaves of this state
+abbrev pub CoreStands : VolumeShape → Contents → CacheTables → State → Type 0
+CoreStands shape c tables s = Stands shape (cache_seen c) (cache_kept c tables) (crashed s)
 
 -- ---- requests over a server
 

@@ -1,12 +1,15 @@
 -- Legal transcripts of a plan of boots. Every reply is the one that the definition gives, and each boot finds the files and
 -- regions after all requests that were answered before, the one that met a stop being absent, whole or a leading part.
-use Rattle.std.specs.Prelude.{◌≡◌, ◌⊎◌, ℕ, ◌+◌, ◌<◌, ◌≤◌, ◌++◌, All, Any, List, [], ◌∷◌, length, map, Option, Some, None}
+use Rattle.std.specs.Prelude.{ℕ, ◌≡◌, ◌⊎◌, ◌+◌, ◌<◌, ◌≤◌, ◌++◌, ◌∷◌, Option, Some, length, map, sum, All, Any, List, [], None}
+use Rattle.std.specs.FinMap.{get}
+use Rattle.std.specs.List.{range_with_len}
 use Rattle.rio_base.specs.Image.{image_pages}
 use Rattle.rio_base.specs.declared.places.VolumeShape.{VolumeShape}
+use Rattle.rio_model.specs.declared.node.Node.{Node}
+use Rattle.rio_model.specs.declared.node.Node.TheVariants.{File}
 use Rattle.rio_model.specs.declared.state.State.{State}
 use Rattle.rio_model.specs.Censuses.{IsCensus}
 use Rattle.rio_model.specs.Fresh.{fresh_state}
-use Rattle.boots.specs.FileBytes.{file_bytes}
 use Rattle.rio_requests.specs.declared.reply.Reply.{Reply}
 use Rattle.rio_requests.specs.declared.request.Request.{Request}
 use Rattle.rio_requests.specs.Crash.{crashed}
@@ -21,6 +24,17 @@ use Rattle.boots.specs.declared.transcript.BootEnd.{BootEnd}
 use Rattle.boots.specs.declared.transcript.BootEnd.TheVariants.{Served, Stopped, BootFault}
 use Rattle.boots.specs.declared.transcript.BootRun.{BootRun}
 use Rattle.boots.specs.declared.transcript.Transcript.{Transcript}
+
+-- ---- how many bytes the files of a state have
+
+-- the bytes of a node, which has some if it is a file
+abbrev pub bytes_in : Option Node → ℕ
+bytes_in (Some (File bytes)) = length bytes
+bytes_in _ = 0
+
+-- the sum of their sizes
+abbrev pub file_bytes : State → ℕ
+file_bytes s = sum (map (λ i. bytes_in (get s.nodes i)) (range_with_len 1 s.shape.inodes))
 
 -- ---- plans that can be run
 

@@ -1,8 +1,5 @@
 pub mod Boots
 pub mod Copies
-pub mod Cores
-pub mod FileBytes
-pub mod FreshParts
 pub mod Legal
 pub mod Parts
 pub mod Plans

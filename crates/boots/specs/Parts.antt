@@ -1,15 +1,29 @@
--- What lies between two boots: the words of memory and the disk.
-use Rattle.std.specs.Prelude.{◌≡◌, ◌≤◌, ◌<◌, ℕ, ◌+◌, ◌*◌, ◌^◌, ◌%◌, Option, None, List, [], length, Some}
+-- What lies between two boots: the words of memory and the disk, which at first has a fresh volume.
+use Rattle.std.specs.Prelude.{◌≡◌, ◌<◌, ℕ, ◌≤◌, ◌+◌, ◌*◌, ◌^◌, ◌%◌, Bool, false, List, length, Option, None, [], Some}
+use Rattle.rio_base.specs.declared.places.VolumeShape.{VolumeShape}
+use Rattle.rio_base.specs.Disks.{FaultCount, block_at, is_pending}
+use Rattle.rio_base.specs.Machine.{Running}
+use Rattle.rio_model.specs.Cover.{home_word}
+use Rattle.rio_model.specs.Fresh.{IsFreshVolume}
+use Rattle.rio_model.specs.declared.state.State.{State}
+use Rattle.rio_model.specs.Standing.{StandsFor}
 use Rattle.block_disk.specs.MemDisks.{Crashed, FailsNever, MemDiskState, contents_of}
 use Rattle.block_disk.specs.BlockLists.{AreWhole}
 use Rattle.block_disk.specs.declared.disk_choice.DiskChoice.{DiskChoice}
+use Rattle.machine_bench.specs.Benches.{made_contents}
 use Rattle.boots.specs.declared.transcript.BootEnd.{BootEnd}
 use Rattle.boots.specs.declared.transcript.BootEnd.TheVariants.{Stopped}
-use Rattle.machine_bench.specs.Benches.{made_contents}
-use Rattle.rio_base.specs.Disks.{FaultCount}
-use Rattle.rio_base.specs.Machine.{Running}
-use Rattle.rio_model.specs.declared.state.State.{State}
-use Rattle.rio_model.specs.Standing.{StandsFor}
+
+-- ---- a disk with a fresh volume
+
+-- the blocks of a disk are a fresh volume of this shape, and none is pending
+pub record IsFreshDisk (shape : VolumeShape) (blocks : List (List ℕ)) (pending : List Bool) : Type 0 where
+  pub count : length blocks ≡ shape.blocks
+  pub whole : (b : ℕ) → b < length blocks → length (block_at blocks b) ≡ 512
+  pub volume : IsFreshVolume shape (home_word blocks)
+  pub settled : (b : ℕ) → is_pending pending b ≡ false
+
+-- ---- between two boots
 
 -- a wild store is armed: the step before which it falls, its place, and its word
 abbrev pub armed_run : Option (ℕ × ℕ × ℕ) → Running → Running

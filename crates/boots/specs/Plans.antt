@@ -4,8 +4,7 @@ use Rattle.block_disk.specs.declared.disk_choice.DiskChoice.TheVariants.{AsRead}
 use Rattle.boots.specs.declared.plan.BootPlan.{BootPlan}
 use Rattle.boots.specs.declared.plan.LivePlan.{LivePlan}
 use Rattle.rio_requests.specs.declared.request.Request.{Request}
-use Rattle.work_gen.specs.Boots.{boot}
-use Rattle.work_gen.specs.Draws.{Drawn}
+use Rattle.work_gen.specs.Draws.{Drawn, boot}
 use Rattle.work_gen.specs.Requests.{request}
 
 -- a word with all bits set

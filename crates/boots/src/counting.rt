@@ -12,7 +12,7 @@ ghost use Rattle.rio_model.specs.Censuses.{IsCensus};
 ghost use Rattle.rio_model.specs.Sizes.{largest_size};
 ghost use Rattle.rio_model.specs.Standing.{StandsFor};
 ghost use Rattle.rio_model.specs.VolumeReads.{ReadsAs};
-ghost use Rattle.boots.specs.FileBytes.{bytes_in, file_bytes};
+ghost use Rattle.boots.specs.Legal.{bytes_in, file_bytes};
 ghost use Rattle.boots.specs.Parts.{NeverFails, PartsStand};
 
 use crate::parts::{Parts, board_of};

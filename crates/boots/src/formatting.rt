@@ -7,8 +7,7 @@ ghost use Rattle.rio_base.specs.Image.{AreImageSizes, image_pages};
 ghost use Rattle.rio_base.specs.Shapes.{IsServed};
 ghost use Rattle.rio_model.specs.Fresh.{fresh_state};
 ghost use Rattle.image_codec.specs.Volume.{fresh_volume_words};
-ghost use Rattle.boots.specs.FreshParts.{IsFreshDisk};
-ghost use Rattle.boots.specs.Parts.{PartsStand};
+ghost use Rattle.boots.specs.Parts.{IsFreshDisk, PartsStand};
 
 use crate::parts::Parts;
 use block_disk::MemDisk;

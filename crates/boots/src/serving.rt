@@ -8,8 +8,7 @@ ghost use Rattle.rio_requests.specs.Requests.{IsRequest};
 ghost use Rattle.cached_pages.specs.Caches.{CacheSound, cache_below, cache_health};
 ghost use Rattle.warm_reboot.specs.Examining.{TellsNoRule};
 ghost use Rattle.pair_files.specs.Scenes.{IsBooted};
-ghost use Rattle.boots.specs.Cores.{CoreHolds, CoreStands};
-ghost use Rattle.boots.specs.Boots.{EndsUnbooted, RunsBoot, ServesThese, none_served, run_served};
+ghost use Rattle.boots.specs.Boots.{CoreHolds, CoreStands, EndsUnbooted, RunsBoot, ServesThese, none_served, run_served};
 
 use crate::{BootEnd, BootRun, copy_request};
 use page_cache::PageCache;

@@ -1,7 +1,7 @@
 //! The lines that tell what a drill came to.
 
 ghost use Rattle.std.specs.Prelude.{◌≡◌, ◌<◌, ◌≤◌, ◌^◌, [], length, take};
-ghost use Rattle.rio_base.specs.Counts.{Rose};
+ghost use Rattle.rio_base.specs.Failures.{Rose};
 ghost use Rattle.request_codec.specs.Sending.{Puts, Sends};
 ghost use Rattle.boots.specs.Summaries.{answered_line, boots_line, count_line, counted_line, nodes_line, refusal_line, refusal_lines, reply_count, summary};
 ghost use Rattle.boots.specs.Told.{LacksMemory, Tells};

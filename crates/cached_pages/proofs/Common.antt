@@ -23,8 +23,7 @@ pub use Rattle.rio_model.proofs.CoverLookups.{entry_one, found_at, frames_one, h
 pub use Rattle.rio_model.proofs.CoverSteps.{coherent_on, coherent_one, disk_same, firm_by, pending_same}
 pub use Rattle.rio_model.proofs.RegistryRules.{valid_moved}
 pub use Rattle.rio_model.specs.Cover.{Coherent, HeldEntry, IsBare, Keeps, Narrows, SameNames, cover_by, entry_block, entry_of_block, name_in, reads, stands}
-pub use Rattle.rio_model.specs.CoverChanges.{OnePage, SameEntries}
+pub use Rattle.rio_model.specs.CoverChanges.{OnePage, SameEntries, stands_idle}
 pub use Rattle.rio_model.specs.CoverFills.{Made}
 pub use Rattle.rio_model.specs.CoverLookups.{cover_at, found_is}
-pub use Rattle.rio_model.specs.CoverStands.{stands_idle}
 pub use Rattle.rio_model.specs.Registry.{BlockRule, IsValid, OneEntry, frames_of, gate_of, is_data, is_dirty, is_valid, page_of_entry, shadow_at, size_at, tag_at, tag_block, tag_of}

@@ -5,7 +5,7 @@ use Rattle.std.proofs.lemmas.Bool.{ltb-false, lt-ltb}
 use Rattle.rio_base.specs.declared.failures.VolFail.{VolFail}
 use Rattle.rio_base.specs.declared.failures.VolFail.TheVariants.{Fault}
 use Rattle.rio_base.specs.Blocks.{Ends}
-use Rattle.rio_base.specs.Counts.{Rose}
+use Rattle.rio_base.specs.Failures.{Rose}
 use Rattle.rio_base.proofs.MachineRules.{ends_as, ends_err, ends_none, never}
 use Rattle.rio_base.specs.Machine.{FaultCause, StopReason}
 use Rattle.rio_base.specs.Volume.{Quiet, Runs, StopCause}

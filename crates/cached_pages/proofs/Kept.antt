@@ -6,8 +6,8 @@ use Rattle.cached_pages.specs.declared.tables.CacheTables.{CacheTables}
 use Rattle.cached_pages.specs.Caches.{CacheSound, IsListed, SameTables}
 use Rattle.cached_pages.specs.EarlyBlocks.{Knows, LosesSome}
 use Rattle.cached_pages.specs.declared.slots.EarlyWrites.{EarlyWrites}
-use Rattle.write_back.specs.Writing.{SameDisk}
-use Rattle.cached_pages.specs.Nearing.{Nears}
+use Rattle.write_back.specs.Flushing.{SameDisk}
+use Rattle.cached_pages.specs.Stores.{Nears}
 use Rattle.cached_pages.proofs.EarlyStates.{knows_loses, loses_refl}
 
 -- the pool has so many frames and blocks as before, and the same pins

@@ -12,13 +12,13 @@ use Rattle.rio_base.proofs.MachineRules.{lasts_refl, steps_refl}
 use Rattle.rio_model.proofs.CoverStands.{narrows_refl}
 use Rattle.rio_model.proofs.CoverSteps.{keeps_refl, keeps_trans}
 use Rattle.rio_model.specs.Cover.{OnDisk, frame_page, home_word}
-use Rattle.write_back.specs.Writing.{SameDisk}
+use Rattle.write_back.specs.Flushing.{SameDisk}
 use Rattle.cached_pages.specs.declared.slots.EarlyWrites.{EarlyWrites}
 use Rattle.cached_pages.specs.declared.tables.CacheTables.{CacheTables}
 use Rattle.cached_pages.specs.Caches.{CacheSound, cache_below, cache_health, cache_kept, cache_seen, is_touched}
 use Rattle.cached_pages.specs.EarlyBlocks.{HasWords, Knows, LosesSome, SettlesAll, owner_of, slot_at}
 use Rattle.cached_pages.proofs.EarlyStates.{knows_but, knows_settled}
-use Rattle.cached_pages.specs.Nearing.{Nears}
+use Rattle.cached_pages.specs.Stores.{Nears}
 use Rattle.cached_pages.specs.Uses.{DirtiesOnly, LeavesFrame}
 use Rattle.cached_pages.proofs.Goes.{roomy_is, runs_of}
 use Rattle.cached_pages.proofs.Kept.{tables_refl, tables_trans}

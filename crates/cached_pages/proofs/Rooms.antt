@@ -10,7 +10,7 @@ use Rattle.rio_model.proofs.CoverSteps.{keeps_trans}
 use Rattle.cached_pages.specs.declared.tables.CacheTables.{CacheTables}
 use Rattle.cached_pages.specs.Caches.{Adds, CacheSound, FewWrites, SameTables, SameTouches, cache_below, cache_health, cache_kept, cache_seen, was_forgotten}
 use Rattle.cached_pages.proofs.Goes.{goes_few}
-use Rattle.write_back.specs.Writing.{SameDisk}
+use Rattle.write_back.specs.Flushing.{SameDisk}
 use Rattle.cached_pages.proofs.Kept.{SameSizes, TablesStay, bound_held, bound_one, bound_tags, shadows_entries, shadows_gone, shadows_held, sizes_keep, sound_stays, tables_same}
 use Rattle.cached_pages.proofs.Stores.{cached_entries, name_other, narrows_cached}
 use Rattle.cached_pages.proofs.Touched.{touches_entries, touches_one}

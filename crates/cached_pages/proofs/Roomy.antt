@@ -4,7 +4,7 @@ use Rattle.rio_base.specs.Disks.{raised}
 use Rattle.frame_pool.specs.Pools.{IsVictim, NoneFree}
 use Rattle.rio_model.specs.Registry.{is_dirty}
 use Rattle.rio_model.proofs.CoverLookups.{found_none}
-use Rattle.write_back.specs.Writing.{SameDisk}
+use Rattle.write_back.specs.Flushing.{SameDisk}
 use Rattle.cached_pages.specs.declared.tables.CacheTables.{CacheTables}
 use Rattle.cached_pages.specs.Caches.{CacheSound, FewWrites}
 use Rattle.cached_pages.proofs.Pigeons.{pigeons}

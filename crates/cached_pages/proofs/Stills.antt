@@ -1,7 +1,7 @@
 -- Calls that write nothing to the disk.
 use Rattle.cached_pages.proofs.Common.{◌≡◌, ℕ, ◌≤◌, refl, ◌∙◌, ap, sym, subst, arith, Contents}
 use Rattle.rio_base.specs.Disks.{FaultCount, raised}
-use Rattle.write_back.specs.Writing.{SameDisk}
+use Rattle.write_back.specs.Flushing.{SameDisk}
 use Rattle.cached_pages.specs.declared.tables.CacheTables.{CacheTables}
 use Rattle.cached_pages.specs.Caches.{FewWrites}
 

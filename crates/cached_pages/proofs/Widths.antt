@@ -3,8 +3,7 @@ use Rattle.cached_pages.proofs.Common.{◌≡◌, ◌≢◌, ℕ, ◌<◌, ◌�
 use Rattle.std.specs.Prelude.{max}
 use Rattle.rio_base.specs.Blocks.{IsPageName}
 use Rattle.rio_base.specs.Volume.{widened}
-use Rattle.rio_model.specs.Registry.{KeepsRegistry, file_at, index_at}
-use Rattle.rio_model.specs.RegistryRules.{EntryKeeps}
+use Rattle.rio_model.specs.Registry.{EntryKeeps, KeepsRegistry, file_at, index_at}
 use Rattle.rio_model.proofs.RegistryRules.{entry_keeps, registry_one}
 use Rattle.rio_model.specs.Cover.{frame_page}
 use Rattle.rio_model.proofs.CoverChanges.{page_word_one, reads_kept, stands_kept}

@@ -8,7 +8,7 @@ use Rattle.rio_base.specs.Machine.{Contents, Running}
 use Rattle.rio_base.specs.Volume.{Below, Kept}
 use Rattle.frame_pool.specs.Pools.{block_of, blocks_in, frames_in, is_pinned, least_recent, pins_in}
 use Rattle.rio_model.specs.Registry.{IsValid, frames_of, gate_of, is_dirty, is_valid, shadow_at, tag_at}
-use Rattle.write_back.specs.Writing.{SameDisk}
+use Rattle.write_back.specs.Flushing.{SameDisk}
 use Rattle.rio_model.specs.Cover.{Coherent, StandsAs, causes_of, entry_block, entry_of_block, home_of, home_word, is_loose, name_in, reads, stands}
 use Rattle.cached_pages.specs.declared.tables.CacheTables.{CacheTables}
 use Rattle.cached_pages.specs.EarlyBlocks.{Knows, KnowsNone}

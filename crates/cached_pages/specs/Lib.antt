@@ -1,7 +1,6 @@
 pub mod Caches
 pub mod EarlyBlocks
 pub mod EarlySlots
-pub mod Nearing
 pub mod Stores
 pub mod Updating
 pub mod Uses

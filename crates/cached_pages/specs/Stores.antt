@@ -1,12 +1,12 @@
--- What the steps of a store leave so.
+-- What the steps of a store, and a step towards the disk, leave so.
 use Rattle.std.specs.Prelude.{◌≡◌, ◌≢◌, ℕ, ◌<◌, Bool, true, ◌⊎◌, List, length, slice_index, Option, Some}
 use Rattle.rio_base.specs.declared.places.PageName.{PageName}
 use Rattle.rio_base.specs.Blocks.{BlockWords}
-use Rattle.rio_base.specs.Machine.{Contents}
+use Rattle.rio_base.specs.Machine.{Contents, Lasts}
 use Rattle.rio_base.specs.Volume.{SameBut, widened}
-use Rattle.rio_model.specs.Cover.{Coherent, entry_of_block, is_loose, name_in, reads}
+use Rattle.rio_model.specs.Cover.{Coherent, Keeps, entry_of_block, is_loose, name_in, reads}
 use Rattle.cached_pages.specs.declared.tables.CacheTables.{CacheTables}
-use Rattle.cached_pages.specs.Caches.{was_forgotten}
+use Rattle.cached_pages.specs.Caches.{SameTables, was_forgotten}
 
 -- each block has the entry that it had, if any, and that the name that it had
 pub record SameCached (old new : List ℕ) : Type 0 where
@@ -39,3 +39,14 @@ pub record Marks (b : ℕ) (forgotten : Bool) (old new : CacheTables) : Type 0 w
   pub others : (c : ℕ) → c ≢ b → was_forgotten new c ≡ was_forgotten old c
   pub count : length new.forgotten.items ≡ length old.forgotten.items
   pub rest : new ≡ record old { forgotten = new.forgotten }
+
+-- ---- a step towards the disk
+
+-- no word of memory differs, and all reads and stands as before; of the tables only the buffer and what was written early may
+-- differ
+pub record Nears (old new : Contents) (t u : CacheTables) : Type 0 where
+  pub keeps : Keeps old new
+  pub words : new.words ≡ old.words
+  pub lasts : Lasts old new
+  pub tables : SameTables t u
+  pub pool : u.pool ≡ t.pool

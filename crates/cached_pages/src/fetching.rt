@@ -9,7 +9,7 @@ ghost use Rattle.rio_base.specs.Machine.{FaultCause, Lasts, StepEnds};
 ghost use Rattle.rio_model.specs.Registry.{IsValid, frames_of, is_dirty, is_valid, tag_at};
 ghost use Rattle.rio_model.specs.Cover.{Coherent, Keeps, Narrows, entry_of_block, frame_page, home_word};
 ghost use Rattle.frame_pool.specs.Pools.{is_pinned, least_recent, order_of};
-ghost use Rattle.write_back.specs.Writing.{SameDisk};
+ghost use Rattle.write_back.specs.Flushing.{SameDisk};
 ghost use Rattle.cached_pages.specs.Caches.{Adds, CacheSound, FewWrites, SameTables, SameTouches};
 
 use crate::filling::{fill, install_clean, read_home};

@@ -9,7 +9,7 @@ ghost use Rattle.registry.specs.Entries.{IsFree, entry_of, new_entry};
 ghost use Rattle.rio_model.specs.CoverChanges.{OnePage};
 ghost use Rattle.rio_model.specs.Cover.{Coherent, Keeps, frame_page, home_word};
 ghost use Rattle.rio_model.specs.CoverFills.{Made};
-ghost use Rattle.write_back.specs.Writing.{SameDisk};
+ghost use Rattle.write_back.specs.Flushing.{SameDisk};
 
 use registry::install;
 use rio_base::{Block, Machine, Page, PageName, Stopped, VolFail, WordAt};

@@ -9,7 +9,7 @@ ghost use Rattle.rio_base.specs.Machine.{Lasts, StepEnds};
 ghost use Rattle.rio_base.specs.Volume.{cleared};
 ghost use Rattle.rio_model.specs.Registry.{frames_of, is_valid, tag_at};
 ghost use Rattle.rio_model.specs.Cover.{Keeps, Narrows, entry_of_block, frame_page, is_loose, reads};
-ghost use Rattle.write_back.specs.Writing.{SameDisk};
+ghost use Rattle.write_back.specs.Flushing.{SameDisk};
 ghost use Rattle.cached_pages.specs.Caches.{Adds, CacheSound, SameTables, cache_kept};
 ghost use Rattle.cached_pages.specs.Stores.{Frees, Marks, SameCached};
 

@@ -7,9 +7,9 @@ ghost use Rattle.rio_base.specs.Disks.{is_pending, raised};
 ghost use Rattle.rio_base.specs.Machine.{FaultCause, StepEnds};
 ghost use Rattle.rio_model.specs.Cover.{Coherent, OnDisk};
 ghost use Rattle.rio_model.specs.Registry.{IsValid, frames_of, is_dirty, is_valid, tag_at, tag_block};
-ghost use Rattle.write_back.specs.Writing.{SameDisk};
+ghost use Rattle.write_back.specs.Flushing.{SameDisk};
 ghost use Rattle.cached_pages.specs.Caches.{CacheSound, is_roomy};
-ghost use Rattle.cached_pages.specs.Nearing.{Nears};
+ghost use Rattle.cached_pages.specs.Stores.{Nears};
 
 use crate::fetching::tag_of;
 use crate::tables::CacheTables;

@@ -9,7 +9,7 @@ ghost use Rattle.rio_base.specs.Volume.{CachesStored, put, put_run, stored_name,
 ghost use Rattle.rio_model.specs.Registry.{IsValid, OneEntry, gate_of, is_dirty, shadow_at, tag_at, tag_block};
 ghost use Rattle.rio_model.specs.Cover.{HeldEntry, Keeps, entry_of_block, name_in, reads, stands};
 ghost use Rattle.rio_model.specs.CoverChanges.{SameEntries};
-ghost use Rattle.write_back.specs.Writing.{SameDisk};
+ghost use Rattle.write_back.specs.Flushing.{SameDisk};
 ghost use Rattle.cached_pages.specs.Caches.{CacheSound, FewWrites, SameTables, cache_seen};
 ghost use Rattle.cached_pages.specs.Stores.{Rewrites, SameCached, Widens};
 

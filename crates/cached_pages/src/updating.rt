@@ -7,7 +7,7 @@ ghost use Rattle.rio_model.specs.CoverChanges.{SameEntries};
 ghost use Rattle.rio_model.specs.CoverFills.{Puts};
 ghost use Rattle.rio_model.specs.Registry.{IsValid, frames_of, gate_of, is_data, is_dirty, shadow_at, tag_at, tag_block};
 ghost use Rattle.frame_pool.specs.Pools.{frames_in, is_pinned, order_of};
-ghost use Rattle.write_back.specs.Writing.{SameDisk};
+ghost use Rattle.write_back.specs.Flushing.{SameDisk};
 ghost use Rattle.cached_pages.specs.Caches.{CacheSound, IsListed, SameTables};
 ghost use Rattle.cached_pages.specs.Uses.{DirtiesOnly};
 ghost use Rattle.cached_pages.specs.Updating.{GivesShadow, SameButPins, SamePages};

@@ -32,8 +32,7 @@ pub use Rattle.rio_base.specs.declared.places.VolumeShape.{VolumeShape}
 pub use Rattle.rio_model.proofs.GrowthRules.{page_old}
 pub use Rattle.rio_model.proofs.NodeChangeRules.{held_there, mapped_replaced}
 pub use Rattle.rio_model.proofs.PlacedRules.{lays_self}
-pub use Rattle.rio_model.specs.Held.{HasEntry, Held, entry_ino, entry_name, held, held_of}
-pub use Rattle.rio_model.specs.HeldRules.{held_ino}
+pub use Rattle.rio_model.specs.Held.{HasEntry, Held, entry_ino, entry_name, held, held_ino, held_of}
 pub use Rattle.rio_model.specs.NodeChanges.{Change}
 pub use Rattle.rio_model.specs.Paths.{IsName}
 pub use Rattle.rio_model.specs.Placed.{AtPage, AtTable, HasSlot, IsFree, Layout, Owns, Placed, Slot, placed_at, volume_layout}

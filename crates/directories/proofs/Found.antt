@@ -3,7 +3,7 @@ use Rattle.directories.proofs.Common.{◌≡◌, ◌≢◌, ℕ, ◌+◌, ◌-�
 use Rattle.std.specs.Prelude.{Ok, Err}
 use Rattle.rio_base.specs.Blocks.{IsRun}
 use Rattle.rio_model.proofs.WordRules.{held_word}
-use Rattle.directories.specs.Finding.{FindsIn, FindsInPage}
+use Rattle.directories.specs.Reading.{FindsIn, FindsInPage}
 use Rattle.directories.specs.Entries.{name_in}
 use Rattle.directories.proofs.NameWords.{name_moved}
 use Rattle.directories.proofs.CanRead.{sized}

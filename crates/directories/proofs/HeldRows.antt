@@ -10,8 +10,7 @@ use Rattle.std.proofs.lemmas.List.FromFn.{map-range_with_len_more}
 use Rattle.std.proofs.lemmas.Map.Text.{is_eq-slice_cmp}
 use Rattle.name_index.specs.Rows.{NamesOfDir}
 use Rattle.directories.specs.Entries.{name_in}
-use Rattle.directories.specs.Holding.{HoldsRows}
-use Rattle.directories.specs.Rows.{HasRow, NamesApart}
+use Rattle.directories.specs.Rows.{HasRow, HoldsRows, NamesApart}
 use Rattle.directories.proofs.EntryRead.{IsSlot}
 
 -- the row of slot j of a directory

@@ -2,16 +2,14 @@
 use Rattle.std.specs.Prelude.{◌≡◌, ℕ}
 use Rattle.directories.proofs.Common.{VolumeShape, BlockWords, Seen, Held, held_of, Change, Slot, Placed, HasSlot, placed_at, volume_layout, AtPage, AtTable, Layout, IsFree, IsMapped, ◌≡◌, ◌≢◌, ℕ, ◌-◌, ◌/◌, ◌<◌, ◌≤◌, refl, sym, ap, subst, ◌∙◌, arith, inl, inr, cases_eq, IsIno, reserved, Kept, held_there, mapped_replaced, lays_self, Applied, LeavesInUse, Ready}
 use Rattle.rio_model.specs.NodeChanges.{Available, BitsFollow, Replaces, Without}
-use Rattle.rio_model.specs.Placed.{Lies, Owned}
-use Rattle.rio_model.specs.PlacedRules.{SamePlaced}
+use Rattle.rio_model.specs.Placed.{Lies, Owned, SamePlaced}
 use Rattle.rio_base.specs.Bitmap.{used_bit}
 use Rattle.rio_base.specs.Layout.{half}
 use Rattle.rio_model.proofs.NodeChangeRules.{held_here, lays_replaced, node_here, node_there}
 use Rattle.rio_model.proofs.PlacedRules.{with_placed, SameLayout, above_no_bitmap, direct_of, first_table, has_back, has_same, inode_low, later_of, lays_agree, lays_same, lies_of, lies_self, owned_back, table_of}
 use Rattle.rio_model.proofs.UpdateRules.{turned, turned_bits, turned_held}
 use Rattle.rio_model.specs.Updates.{Turns, Update}
-use Rattle.directories.specs.Making.{MayBeMade}
-use Rattle.directories.specs.Plans.{PlansDir, dir_update}
+use Rattle.directories.specs.Plans.{MayBeMade, PlansDir, dir_update}
 use Rattle.directories.specs.declared.changes.DirChange.{DirChange}
 
 -- blocks k are blocks g with the rows of directory d changed: every other node holds what it held

@@ -1,8 +1,5 @@
 pub mod Contents
 pub mod Entries
-pub mod Finding
-pub mod Holding
-pub mod Making
 pub mod Plans
 pub mod Reading
 pub mod RowChanges

@@ -1,17 +1,17 @@
--- A change of a directory that is prepared, and what it makes of the directory.
+-- A change of a directory that is prepared, what it makes of the directory, and when it may be made.
 use Rattle.std.specs.Prelude.{◌≡◌, ℕ, ◌<◌, ◌⊎◌, true, false, None, List, length, map, slice_index, take}
 use Rattle.std.specs.List.{Contains}
 use Rattle.rio_base.specs.declared.places.VolumeShape.{VolumeShape}
 use Rattle.rio_base.specs.Bitmap.{free_blocks}
 use Rattle.rio_base.specs.Blocks.{BlockWords, Seen}
 use Rattle.rio_base.specs.Volume.{Kept}
+use Rattle.rio_model.specs.Held.{Held, held, held_of}
+use Rattle.rio_model.specs.NodeChanges.{Available}
+use Rattle.rio_model.specs.Placed.{Slot, Placed, HasSlot, placed_at, volume_layout, IsFree, SamePlaced}
+use Rattle.rio_model.specs.Updates.{Turns, Update, edited}
 use Rattle.block_alloc.specs.Bitmap.{numbers}
 use Rattle.node_pages.specs.declared.changes.Edit.{Edit}
 use Rattle.node_pages.specs.Changes.{Apart, node_update, wanted_blocks, word_edit}
-use Rattle.rio_model.specs.Held.{Held, held, held_of}
-use Rattle.rio_model.specs.NodeChanges.{Available}
-use Rattle.rio_model.specs.Placed.{Slot, Placed, HasSlot, placed_at, volume_layout, IsFree}
-use Rattle.rio_model.specs.Updates.{Turns, Update, edited}
 use Rattle.directories.specs.declared.changes.DirChange.{DirChange}
 
 -- the update that it is
@@ -57,3 +57,12 @@ pub record PlansDir (shape : VolumeShape) (f : BlockWords) (y : Seen) (j : Kept)
   pub few : InThreeBlocks c.edits
   pub firm : (s : Slot) → HasSlot node s → j.loose (node.block s) ≡ false
   pub unnamed : (s : Slot) → HasSlot node s → y.cached (node.block s) ≡ true → y.names (node.block s) ≡ None
+
+-- ---- a plan may be made long after it was prepared, and other plans before it in the same update
+
+-- a plan of directory d, which was n and is to be m, may be made on blocks g: the directory lies as it did, the blocks that
+-- it is to have read as they did in f, and are its own or free
+pub record MayBeMade (shape : VolumeShape) (n m : Placed) (d : ℕ) (f g : BlockWords) : Type 0 where
+  pub lies : SamePlaced n (placed_at g d)
+  pub same : SameBlocks m f g
+  pub from : (s : Slot) → HasSlot m s → Available (volume_layout shape g) d (m.block s)

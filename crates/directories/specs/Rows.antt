@@ -1,11 +1,14 @@
--- The rows of a directory: its names, and what each of them names, as a set. In which slot a row stands is in none of it.
+-- The rows of a directory: its names, and what each of them names, as a set and as a finite map. In which slot a row stands
+-- is in none of it.
 use Rattle.std.specs.Prelude.{◌≡◌, ℕ, ◌*◌, ◌/◌, ◌<◌, List, map, Option, Some, None}
 use Rattle.std.specs.Cmp.Lexicographic.{slice_cmp}
 use Rattle.std.specs.List.{range_with_len}
 use Rattle.std.specs.List.Sorted.{IsPermutation, IsSorted}
 use Rattle.std.specs.Ordering.{nat_cmp}
+use Rattle.std.specs.FinMap.{get}
 use Rattle.rio_base.specs.declared.places.Ino.{Ino}
 use Rattle.rio_model.specs.Held.{Held, entry_ino, entry_name}
+use Rattle.name_index.specs.Rows.{NamesOfDir}
 
 -- slot j has this row
 pub record IsEntry (h : Held) (j : ℕ) (name : List ℕ) (i : ℕ) : Type 0 where
@@ -34,3 +37,10 @@ Finds h name (Some found) = IsEntry h found.1 name found.0.0
 pub record ListsNames (h : Held) (names : List (List ℕ)) : Type 0 where
   pub all : IsPermutation (map (entry_name h) (range_with_len 0 (h.size / 64))) names
   pub order : IsSorted (slice_cmp nat_cmp) names
+
+-- ---- as a finite map
+
+-- names are the rows of a directory
+pub record HoldsRows (h : Held) (names : NamesOfDir) : Type 0 where
+  pub has : (name : List ℕ) (i : ℕ) → HasRow h name i → get names name ≡ Some i
+  pub only : (name : List ℕ) (i : ℕ) → get names name ≡ Some i → HasRow h name i

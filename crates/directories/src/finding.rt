@@ -9,9 +9,8 @@ ghost use Rattle.rio_model.specs.VolumeReady.{AllNamed};
 ghost use Rattle.rio_model.specs.VolumeRules.{EntryRule, IsMapped};
 ghost use Rattle.inode_table.specs.Inodes.{IsInode};
 ghost use Rattle.node_pages.specs.LookingUp.{LooksUp};
-ghost use Rattle.directories.specs.Finding.{FindsIn, FindsInPage};
+ghost use Rattle.directories.specs.Reading.{CanReadDir, FindsIn, FindsInPage};
 ghost use Rattle.directories.specs.Entries.{IsKey, name_in};
-ghost use Rattle.directories.specs.Reading.{CanReadDir};
 ghost use Rattle.directories.specs.Rows.{Finds, IsEntry};
 
 use crate::{

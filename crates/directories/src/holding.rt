@@ -10,8 +10,7 @@ ghost use Rattle.rio_model.specs.VolumeReady.{AllNamed};
 ghost use Rattle.rio_model.specs.VolumeRules.{EntryRule, IsMapped};
 ghost use Rattle.inode_table.specs.Inodes.{IsInode};
 ghost use Rattle.directories.specs.Entries.{name_in};
-ghost use Rattle.directories.specs.Holding.{HoldsRows};
-ghost use Rattle.directories.specs.Rows.{NamesApart};
+ghost use Rattle.directories.specs.Rows.{HoldsRows, NamesApart};
 
 use crate::listing::write_bytes;
 use crate::{ENTRY_BYTES, ENTRY_WORDS, NAME_BYTES, entry_ino, name_length, read_entry};

@@ -3,9 +3,8 @@ use Rattle.directories.proofs.Common.{◌≡◌, ◌≢◌, ℕ, ◌≤◌, ◌�
 use Rattle.std.specs.Prelude.{take}
 use Rattle.rio_model.specs.NodeChanges.{Available}
 use Rattle.rio_model.proofs.PlacedRules.{has_same}
-use Rattle.directories.specs.Making.{MayBeMade}
+use Rattle.directories.specs.Plans.{MayBeMade, PlansDir, dir_update}
 use Rattle.directories.proofs.MakingRules.{DisjointNodes, may_after, may_still, plan_change}
-use Rattle.directories.specs.Plans.{PlansDir, dir_update}
 use Rattle.directories.specs.Reading.{CanReadDir}
 use Rattle.directories.specs.RowChanges.{RemovesRow}
 use Rattle.directories_tests.specs.TestDirs.{CanMake, DirsOrder, DirsReady, KeepsRows}

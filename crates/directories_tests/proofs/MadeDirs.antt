@@ -5,8 +5,7 @@ use Rattle.rio_base.specs.declared.places.VolumeShape.{VolumeShape}
 use Rattle.rio_base.specs.Blocks.{Seen}
 use Rattle.rio_base.specs.Layout.{IsIno, inode_kind}
 use Rattle.rio_base.specs.Volume.{Kept}
-use Rattle.rio_model.specs.Held.{Held, HasEntry, held_of}
-use Rattle.rio_model.specs.HeldRules.{held_ino}
+use Rattle.rio_model.specs.Held.{Held, HasEntry, held_of, held_ino}
 use Rattle.rio_model.specs.Placed.{volume_layout}
 use Rattle.rio_model.specs.VolumeReady.{Ready}
 use Rattle.directories.proofs.CanRead.{dir_ino}

@@ -6,9 +6,8 @@ use Rattle.rio_base.specs.Blocks.{CanName, Drops, SamePage}
 use Rattle.rio_base.specs.Rules.{true_false}
 use Rattle.rio_base.specs.Volume.{Touches, with_block}
 use Rattle.rio_model.proofs.WordRules.{itself}
-use Rattle.directories.specs.Making.{MayBeMade}
+use Rattle.directories.specs.Plans.{InThreeBlocks, MayBeMade, PlansDir}
 use Rattle.directories.proofs.MakingOrder.{plan_applies, plan_edits}
-use Rattle.directories.specs.Plans.{InThreeBlocks, PlansDir}
 use Rattle.directories.specs.Rows.{NamesApart}
 use Rattle.directories_tests.specs.TestDirs.{CanMake, CanTouch, DirsOrder, KeepsRows}
 use Rattle.directories.specs.declared.changes.DirChange.{DirChange}

@@ -12,8 +12,7 @@ use Rattle.rio_model.specs.Placed.{placed_at}
 use Rattle.rio_model.specs.VolumeReady.{InOrder, Ready}
 use Rattle.rio_model.specs.VolumeRules.{EntryRule}
 use Rattle.node_pages.specs.declared.changes.Edit.{Edit}
-use Rattle.directories.specs.Making.{MayBeMade}
-use Rattle.directories.specs.Plans.{PlansDir}
+use Rattle.directories.specs.Plans.{MayBeMade, PlansDir}
 use Rattle.directories.specs.Rows.{HasRow, NamesApart}
 use Rattle.directories.specs.declared.changes.DirChange.{DirChange}
 

@@ -11,7 +11,7 @@ ghost use Rattle.rio_model.specs.VolumeReady.{LeavesInUse};
 ghost use Rattle.rio_model.specs.declared.state.State.{State};
 ghost use Rattle.rio_requests.specs.Answers.{write as write_of, truncate as truncate_of, read as read_of};
 ghost use Rattle.rio_requests.specs.Parts.{NoneDone, WriteDone};
-ghost use Rattle.node_pages.specs.Forgetting.{Forgets};
+ghost use Rattle.node_pages.specs.Staging.{Forgets};
 ghost use Rattle.request_ends.specs.Ends.{CanServe, FileEnds, SaysBytes, SaysCount, SaysDone};
 ghost use Rattle.request_ends.specs.Failures.{Faulted};
 ghost use Rattle.file_tree.specs.Memos.{InStep};

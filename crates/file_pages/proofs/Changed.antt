@@ -5,9 +5,8 @@ use Rattle.rio_model.proofs.HeldRules.{held_agree}
 use Rattle.rio_model.proofs.LowestBlocks.{bits_agree, lowest_applied}
 use Rattle.rio_model.proofs.NodeChangeRules.{held_here, held_there, mapped_replaced}
 use Rattle.rio_model.specs.NodeChanges.{AreLowest, Available, BitsFollow, Without}
-use Rattle.rio_model.specs.Placed.{Lies}
+use Rattle.rio_model.specs.Placed.{Lies, SamePlaced}
 use Rattle.rio_model.proofs.PlacedRules.{Lays, has_back, lies_same}
-use Rattle.rio_model.specs.PlacedRules.{SamePlaced}
 use Rattle.rio_model.proofs.UpdateRules.{edited_out, turned, turned_bits, turned_held}
 use Rattle.rio_model.proofs.WordRules.{held_beside}
 use Rattle.node_pages.specs.Changes.{EditsTable, size_update, word_edit}

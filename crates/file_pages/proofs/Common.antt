@@ -29,8 +29,7 @@ pub use Rattle.rio_model.proofs.PlacedRules.{SameLayout, has_same, inode_low, la
 pub use Rattle.rio_model.proofs.VolumeReadRules.{stands_agree}
 pub use Rattle.rio_model.proofs.WordRules.{beside_agrees, beside_trans, lays_beside, mapped_beside, run_same_but, same_map}
 pub use Rattle.rio_model.specs.FileParts.{IsLead, ResizePart, put_at, resized, written}
-pub use Rattle.rio_model.specs.Held.{Held, byte_in, held, held_bytes, held_of, word_in}
-pub use Rattle.rio_model.specs.HeldRules.{held_ino}
+pub use Rattle.rio_model.specs.Held.{Held, byte_in, held, held_bytes, held_ino, held_of, word_in}
 pub use Rattle.rio_model.specs.NodeChanges.{Change, SetsFile, Takes, grown}
 pub use Rattle.rio_model.specs.Placed.{Agrees, AgreesBeside, AtPage, AtTable, HasSlot, IsFree, Layout, Owned, Owns, Placed, Slot, placed_at, volume_layout}
 pub use Rattle.rio_model.specs.Sizes.{largest_size, pages}

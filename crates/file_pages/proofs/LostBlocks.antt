@@ -4,7 +4,7 @@ use Rattle.rio_model.proofs.GrowthRules.{grown_has}
 use Rattle.rio_model.proofs.PlacedRules.{owned_on}
 use Rattle.rio_model.specs.Updates.{Update}
 use Rattle.node_pages.specs.Changes.{PlansFor, given_node, planned_node, size_update}
-use Rattle.node_pages.specs.Forgetting.{Forgets, Uncached}
+use Rattle.node_pages.specs.Staging.{Forgets, Uncached}
 use Rattle.file_pages.specs.Preparing.{Prepared}
 use Rattle.node_pages.specs.declared.changes.SizeChange.{SizeChange}
 use Rattle.node_pages.proofs.Given.{given_of}

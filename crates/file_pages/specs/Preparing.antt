@@ -15,7 +15,7 @@ use Rattle.rio_model.specs.VolumeReady.{LeavesInUse, NamedNode, Ready}
 use Rattle.rio_model.specs.VolumeRules.{IsMapped}
 use Rattle.node_pages.specs.Changes.{EditsTable, size_update}
 use Rattle.file_pages.specs.Files.{SetsBoth, StopsAs, file_bytes}
-use Rattle.node_pages.specs.OrderRules.{TableOrFree}
+use Rattle.node_pages.specs.Updating.{TableOrFree}
 use Rattle.node_pages.specs.declared.changes.SizeChange.{SizeChange}
 use Rattle.node_pages.specs.declared.failures.SizeFail.{SizeFail}
 use Rattle.node_pages.specs.declared.failures.SizeFail.TheVariants.{Fault, Stopped}

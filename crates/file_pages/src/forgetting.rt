@@ -5,8 +5,7 @@ ghost use Rattle.std.specs.List.{Contains};
 ghost use Rattle.rio_base.specs.Blocks.{Halts};
 ghost use Rattle.rio_base.specs.Volume.{Goes};
 ghost use Rattle.block_alloc.specs.Bitmap.{numbers};
-ghost use Rattle.node_pages.specs.Forgetting.{Uncached};
-ghost use Rattle.node_pages.specs.Staging.{Beside};
+ghost use Rattle.node_pages.specs.Staging.{Beside, Uncached};
 
 use node_pages::SizeFail;
 use rio_base::{Block, Volume};

@@ -12,7 +12,7 @@ ghost use Rattle.rio_model.specs.VolumeReady.{LeavesInUse, Ready};
 ghost use Rattle.rio_model.specs.Sizes.{largest_size};
 ghost use Rattle.inode_table.specs.Inodes.{IsInode};
 ghost use Rattle.node_pages.specs.Changes.{wanted_blocks};
-ghost use Rattle.node_pages.specs.Forgetting.{Forgets};
+ghost use Rattle.node_pages.specs.Staging.{Forgets};
 ghost use Rattle.node_pages.specs.Failures.{Unrefused};
 ghost use Rattle.file_pages.specs.Files.{HasSpace, ResizeStops, SetsBoth, StopsAs, file_bytes};
 ghost use Rattle.file_pages.specs.Preparing.{SizeLeaves};

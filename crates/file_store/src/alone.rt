@@ -13,10 +13,10 @@ ghost use Rattle.rio_requests.specs.Parts.{NoneDone, WriteDone};
 ghost use Rattle.rio_model.specs.Paths.{IsPath};
 ghost use Rattle.request_ends.specs.Ends.{CanServe, FileEnds, SaysNames, SaysStat, SaysBytes, SaysCount, SaysDone, SaysIno};
 ghost use Rattle.request_ends.specs.Failures.{Faulted};
-ghost use Rattle.node_pages.specs.Forgetting.{Forgets};
+ghost use Rattle.node_pages.specs.Staging.{Forgets};
 ghost use Rattle.file_tree.specs.Walks.{ino_numbers};
 ghost use Rattle.rio_base.specs.Layout.{IsIno};
-ghost use Rattle.node_making.specs.NewRegions.{FindsRegion};
+ghost use Rattle.node_making.specs.NewNodes.{FindsRegion};
 
 use file_tree::Memo;
 use name_list::NameList;

@@ -1,15 +1,14 @@
 -- What is held in memory stays in step with the blocks, while they change.
 use Rattle.request_ends.proofs.Common.{◌≡◌, ◌≢◌, ℕ, ◌*◌, ◌<◌, ◌⊎◌, List, Option, refl, sym, ap, subst, ◌∙◌, arith, inl, inr, None, Some, none-some, get, insert, cases_eq, VolumeShape, BlockWords, IsIno, inode_kind, State, NameKey, Names, Node, HasEntry, Held, entry_ino, entry_name, held_of, reads_none, ReadsAs, true_false, get_here, get_there, with_new, with_node}
-use Rattle.directories.specs.Rows.{HasRow}
+use Rattle.directories.specs.Rows.{HasRow, HoldsRows}
 use Rattle.std.specs.Prelude.{is_none}
 use Rattle.rio_model.specs.RegionMoves.{RestHeld}
 use Rattle.rio_model.specs.VolumeReads.{Reads}
 use Rattle.rio_model.proofs.NameOrder.{same_names}
-use Rattle.inode_table.specs.Known.{KnowsFull, StayUsed}
+use Rattle.inode_table.specs.Inodes.{KnowsFull, StayUsed}
 use Rattle.inode_table.specs.declared.full_blocks.FullBlocks.{FullBlocks}
 use Rattle.name_index.specs.Agreeing.{Agrees, AreNames, held_in}
 use Rattle.name_index.specs.Rows.{NamesOfDir}
-use Rattle.directories.specs.Holding.{HoldsRows}
 use Rattle.file_tree.specs.Memos.{InStep, LeadsThere, StayBut, StayThere}
 use Rattle.file_tree.specs.declared.last_path.LastPath.{LastPath}
 use Rattle.file_tree.specs.declared.memo.Memo.{Memo}

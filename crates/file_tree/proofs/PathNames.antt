@@ -7,7 +7,7 @@ use Rattle.std.proofs.lemmas.Bool.{cases_lt}
 use Rattle.std.proofs.lemmas.List.{drop-drop, drop_all, get_or-append-add, get_or-drop, get_or-take, length-drop, length-take-le, take_all, take_rest}
 use Rattle.std.proofs.lemmas.List.Elements.{All-take}
 use Rattle.memchr.specs.Find.{IsFirstByte, IsLastByte, is_byte}
-use Rattle.rio_base.specs.Pieces.{Lacks}
+use Rattle.rio_base.specs.Bytes.{Lacks}
 use Rattle.rio_model.specs.Paths.{AreNames}
 use Rattle.rio_model.proofs.PathPieces.{pieces_first, pieces_whole}
 

@@ -1,6 +1,6 @@
 -- A walk along the bytes of a path, a name at a time.
 use Rattle.request_ends.proofs.Common.{◌≡◌, ℕ, ◌+◌, ◌-◌, ◌<◌, ◌≤◌, ◌⊎◌, List, [], ◌∷◌, length, take, drop, ap, ◌∙◌, Result, Ok, Err, slice_index, Ino, pieces, State, walk}
-use Rattle.rio_base.specs.Pieces.{Lacks}
+use Rattle.rio_base.specs.Bytes.{Lacks}
 use Rattle.request_ends.specs.declared.failures.FileFail.{FileFail}
 use Rattle.file_tree.specs.Walks.{Comes}
 use Rattle.file_tree.proofs.LookedAt.{comes_on, comes_same, walk_next}

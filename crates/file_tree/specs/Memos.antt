@@ -6,7 +6,7 @@ use Rattle.rio_base.specs.Blocks.{BlockWords}
 use Rattle.rio_model.specs.declared.state.State.{State}
 use Rattle.rio_model.specs.Paths.{names_of, walk}
 use Rattle.rio_model.specs.VolumeReads.{ReadsAs}
-use Rattle.inode_table.specs.Known.{KnowsFull}
+use Rattle.inode_table.specs.Inodes.{KnowsFull}
 use Rattle.name_index.specs.Agreeing.{Agrees}
 use Rattle.file_tree.specs.declared.last_path.LastPath.{LastPath}
 use Rattle.file_tree.specs.declared.memo.Memo.{Memo}

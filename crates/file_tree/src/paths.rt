@@ -1,7 +1,7 @@
 //! Paths: `/`, or names with a slash before each.
 
 ghost use Rattle.std.specs.Prelude.{◌≡◌, ◌-◌, ◌<◌, ◌≤◌, ◌⊎◌, true, false, [], length, take, drop, slice_index};
-ghost use Rattle.rio_base.specs.Pieces.{Lacks};
+ghost use Rattle.rio_base.specs.Bytes.{Lacks};
 ghost use Rattle.rio_model.specs.States.{front_of, last_of};
 ghost use Rattle.rio_model.specs.Paths.{IsName, IsPath, names_of};
 ghost use Rattle.rio_requests.specs.Answers.{is_below as is_below_of};

@@ -5,8 +5,7 @@ use Rattle.rio_base.specs.Bytes.{bytes_of}
 use Rattle.rio_base.specs.Hosts.{overwritten}
 use Rattle.rio_base.specs.Memory.{page_at}
 use Rattle.held_memory.specs.Held.{IsFilled, SameBut, filled}
-use Rattle.held_memory.specs.Moments.{Meanwhile}
-use Rattle.held_memory.specs.WordFiles.{FileBytes, IsWrittenFront, WritesInOrder, WritesWords}
+use Rattle.held_memory.specs.WordFiles.{FileBytes, IsWrittenFront, Meanwhile, WritesInOrder, WritesWords}
 use Rattle.held_memory.proofs.Passing.{none_yet, then_call}
 use Rattle.held_memory.proofs.WordBytes.{bytes_both, front_and_part, long_front, over_rest}
 

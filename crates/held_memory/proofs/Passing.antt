@@ -1,6 +1,6 @@
 -- How moments go on.
 use Rattle.std.proofs.Common.{◌≡◌, List, [], ◌∷◌, ◌++◌, Option, Some, refl, sym, ap, ◌∙◌}
-use Rattle.held_memory.specs.Moments.{Each, Meanwhile}
+use Rattle.held_memory.specs.WordFiles.{Each, Meanwhile}
 
 none_more : {C : Type 0} (xs : List C) → xs ++ [] ≡ xs
 none_more [] = refl

@@ -7,8 +7,7 @@ use Rattle.rio_base.specs.Memory.{FrontStored, copied_words}
 use Rattle.rio_base.proofs.Bytes.{length-bytes_of}
 use Rattle.board.proofs.WordRuns.{copied_front}
 use Rattle.held_memory.specs.Held.{HasRunFront, Holds, IsFilled, Misfits, SameBut, StoresInOrder}
-use Rattle.held_memory.specs.Moments.{Meanwhile}
-use Rattle.held_memory.specs.WordFiles.{FileBytes, IsSize}
+use Rattle.held_memory.specs.WordFiles.{FileBytes, IsSize, Meanwhile}
 use Rattle.held_memory.proofs.Passing.{said_less}
 use Rattle.held_memory.proofs.WordBytes.{bytes_behind, bytes_both, bytes_front, bytes_parts}
 

@@ -3,8 +3,7 @@ use Rattle.std.specs.Prelude.{◌≡◌, ◌≤◌, ℕ, ◌+◌, ◌*◌, ◌^�
 use Rattle.std.specs.Option.{option_map}
 use Rattle.rio_base.specs.Bytes.{bytes_of}
 use Rattle.rio_base.specs.Memory.{FrontStored}
-use Rattle.held_memory.specs.Moments.{Meanwhile}
-use Rattle.held_memory.specs.WordFiles.{FileBytes}
+use Rattle.held_memory.specs.WordFiles.{FileBytes, Meanwhile}
 
 -- the file is there and has the bytes of the words, where it is told
 abbrev pub Holds : Option FileBytes → List ℕ → Type 0

@@ -1,4 +1,3 @@
 pub mod Held
 pub mod HeldEnds
-pub mod Moments
 pub mod WordFiles

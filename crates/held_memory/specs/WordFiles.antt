@@ -1,10 +1,22 @@
--- What a file of words has, and what its calls say of it, each only where that is told.
-use Rattle.std.specs.Prelude.{◌≡◌, ◌≤◌, ◌⊎◌, ℕ, ◌*◌, List, length, take, Option, Some, None}
+-- What a file of words has, its moments, and what its calls say of it, each only where that is told.
+use Rattle.std.specs.Prelude.{◌≡◌, ◌≤◌, ◌⊎◌, ℕ, ◌*◌, List, [], ◌∷◌, ◌++◌, Option, Some, length, take, None}
 use Rattle.std.specs.Option.{option_map}
 use Rattle.std.specs.FinMap.{get}
 use Rattle.rio_base.specs.Bytes.{bytes_of}
 use Rattle.rio_base.specs.Hosts.{DifferWithin, Files, overwritten}
-use Rattle.held_memory.specs.Moments.{Meanwhile}
+
+-- ---- the moments of a file: what it was before each change, and in the midst of it
+
+-- each of these has P
+abbrev pub Each : {C : Type 0} → (C → Type 0) → List C → Type 0
+Each P [] = Unit {0}
+Each P (c ∷ cs) = P c × Each P cs
+
+-- the moments grew by some of which each has P, where they are told
+pub record Meanwhile {C : Type 0} (P : C → Type 0) (old new : Option (List C)) : Type 0 where
+  pub grew : (past : List C) → old ≡ Some past → (more : List C) × (new ≡ Some (past ++ more)) × Each P more
+
+-- ---- its words
 
 -- the bytes of a file, or None where there is no such file
 abbrev pub FileBytes : Type 0

@@ -2,10 +2,9 @@
 
 ghost use Rattle.std.specs.Prelude.{◌≡◌, ◌<◌, ◌≤◌, ◌+◌, ◌*◌, ◌%◌, ℕ, List, Some, None, true, false, OnOk, length, take, drop};
 ghost use Rattle.rio_base.specs.Bytes.{bytes_of};
-ghost use Rattle.rio_base.specs.Counts.{HasCause};
+ghost use Rattle.rio_base.specs.Failures.{HasCause};
 ghost use Rattle.held_memory.specs.Held.{HasRisen, IsFilled, Misfits, SameBut};
-ghost use Rattle.held_memory.specs.Moments.{Meanwhile};
-ghost use Rattle.held_memory.specs.WordFiles.{IsSize};
+ghost use Rattle.held_memory.specs.WordFiles.{IsSize, Meanwhile};
 
 use crate::word_file::WordFile;
 use rio_base::{Failed, MemWords, PAGE_WORDS, Page};

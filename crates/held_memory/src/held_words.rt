@@ -4,7 +4,7 @@ ghost use Rattle.std.specs.Prelude.{◌≡◌, ◌<◌, ◌≤◌, ◌+◌, ◌%
 ghost use Rattle.rio_base.specs.Bytes.{bytes_of};
 ghost use Rattle.rio_base.specs.Memory.{AreApart, FrontStored, copied_words};
 ghost use Rattle.held_memory.specs.Held.{Holds, Misfits, StoresInOrder};
-ghost use Rattle.held_memory.specs.Moments.{Meanwhile};
+ghost use Rattle.held_memory.specs.WordFiles.{Meanwhile};
 
 use crate::held_file::HeldFile;
 use crate::word_file::WordFile;

@@ -3,7 +3,7 @@
 ghost use Rattle.std.specs.Prelude.{◌≡◌, ◌<◌, ◌≤◌, ◌+◌, ◌*◌, ◌^◌, None, IfOk, OnOk, OnErr, length};
 ghost use Rattle.std.specs.String.{string_bytes};
 ghost use Rattle.rio_base.specs.Bytes.{bytes_of};
-ghost use Rattle.rio_base.specs.Counts.{HasCause};
+ghost use Rattle.rio_base.specs.Failures.{HasCause};
 ghost use Rattle.rio_base.specs.Hosts.{Overwrites, TearsWithin};
 ghost use Rattle.held_memory.specs.WordFiles.{file_in};
 

@@ -1,7 +1,7 @@
 //! Files of words.
 
 ghost use Rattle.std.specs.Prelude.{◌≡◌, ◌<◌, ◌≤◌, ◌+◌, ◌^◌, ℕ, List, Option, IfOk, OnOk, OnErr, length};
-ghost use Rattle.rio_base.specs.Counts.{HasCause};
+ghost use Rattle.rio_base.specs.Failures.{HasCause};
 ghost use Rattle.held_memory.specs.WordFiles.{FileBytes, IsSize, TearsWords, WritesInOrder, WritesWords};
 
 use rio_base::Failed;

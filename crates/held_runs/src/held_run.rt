@@ -6,7 +6,7 @@ ghost use Rattle.std.specs.String.{string_bytes};
 ghost use Rattle.rio_words.specs.Words.{Reads, texts_of};
 ghost use Rattle.rio_words.specs.declared.command.RioCommand.{RioCommand};
 ghost use Rattle.rio_words.specs.declared.command.RioCommand.TheVariants.{Serve};
-ghost use Rattle.rio_base.specs.Counts.{Rose};
+ghost use Rattle.rio_base.specs.Failures.{Rose};
 ghost use Rattle.rio_commands.specs.Command.{WritesLine, usage_line};
 ghost use Rattle.rio_server.specs.Commands.{IsCommand};
 ghost use Rattle.rio_commands.specs.Outside.{outside};

@@ -8,8 +8,7 @@ use Rattle.rio_base.specs.declared.places.VolumeShape.{VolumeShape}
 use Rattle.rio_base.specs.Blocks.{BlockWords}
 use Rattle.rio_base.specs.Layout.{IsIno, inode_kind}
 use Rattle.rio_base.specs.Shapes.{IsShape}
-use Rattle.inode_table.specs.Inodes.{AreUsed, FindsBelow, FindsFree}
-use Rattle.inode_table.specs.Known.{KnowsFull, StayUsed}
+use Rattle.inode_table.specs.Inodes.{AreUsed, FindsBelow, FindsFree, KnowsFull, StayUsed}
 use Rattle.inode_table.specs.declared.full_blocks.FullBlocks.{FullBlocks}
 use Rattle.inode_table.proofs.Used.{found}
 

@@ -1,5 +1,5 @@
--- An inode and its 16 words.
-use Rattle.std.specs.Prelude.{◌≡◌, ℕ, ◌+◌, ◌-◌, ◌*◌, ◌^◌, ◌<◌, ◌≤◌, ◌==◌, nat_lt, if◌then◌else◌, Option, Some, None, List, map, slice_index}
+-- An inode and its 16 words, and what is known of blocks of inodes.
+use Rattle.std.specs.Prelude.{◌≡◌, ℕ, ◌+◌, ◌-◌, ◌*◌, ◌^◌, ◌<◌, ◌≤◌, ◌==◌, ◌≢◌, ◌/◌, nat_lt, if◌then◌else◌, Option, Some, None, List, map, slice_index}
 use Rattle.std.specs.List.{range_with_len}
 use Rattle.rio_base.specs.declared.places.Ino.{Ino}
 use Rattle.rio_base.specs.declared.places.VolumeShape.{VolumeShape}
@@ -8,6 +8,7 @@ use Rattle.rio_base.specs.Shapes.{reserved}
 use Rattle.rio_base.specs.declared.places.PageName.{PageName}
 use Rattle.rio_base.specs.Layout.{IsIno, inode_kind, inode_size, direct_number, indirect_number, double_number}
 use Rattle.inode_table.specs.declared.inode.Inode.{Inode}
+use Rattle.inode_table.specs.declared.full_blocks.FullBlocks.{FullBlocks}
 
 -- the blocks say this inode
 pub record IsInode (words : BlockWords) (i : ℕ) (n : Inode) : Type 0 where
@@ -51,3 +52,13 @@ FindsBelow words first count (Some k) = (k < count) × (inode_kind words (first 
 -- a reserved block is cached without a name
 abbrev pub IsMetadata : VolumeShape → ℕ → Option PageName → Type 0
 IsMetadata shape b name = (b < reserved shape) × (name ≡ None)
+
+-- ---- blocks of inodes
+
+-- each inode in a block that is marked is used
+pub record KnowsFull (shape : VolumeShape) (full : FullBlocks) (f : BlockWords) : Type 0 where
+  pub each : (i : ℕ) → IsIno shape i → slice_index full.marks ((i - 1) / 32) ≢ 0 → 0 < inode_kind f i
+
+-- inodes that are used in f are so in g, but for inode i
+abbrev pub StayUsed : VolumeShape → ℕ → BlockWords → BlockWords → Type 0
+StayUsed shape i f g = (j : ℕ) → IsIno shape j → j ≢ i → 0 < inode_kind f j → 0 < inode_kind g j

@@ -1,2 +1,1 @@
 pub mod Inodes
-pub mod Known

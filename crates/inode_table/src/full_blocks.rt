@@ -5,8 +5,7 @@ ghost use Rattle.rio_base.specs.declared.places.VolumeShape.{VolumeShape as Shap
 ghost use Rattle.rio_base.specs.Blocks.{BlockWords, Ends, Looks};
 ghost use Rattle.rio_base.specs.BlockSets.{CachesBy};
 ghost use Rattle.rio_base.specs.Shapes.{HasShape};
-ghost use Rattle.inode_table.specs.Inodes.{AreUsed, FindsFree, IsMetadata};
-ghost use Rattle.inode_table.specs.Known.{KnowsFull, StayUsed};
+ghost use Rattle.inode_table.specs.Inodes.{AreUsed, FindsFree, IsMetadata, KnowsFull, StayUsed};
 
 use crate::finding::first_of_block;
 use crate::inode::BLOCK_INODES;

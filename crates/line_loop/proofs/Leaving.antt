@@ -5,7 +5,7 @@ use Rattle.std.proofs.lemmas.List.{length-take-le, take_at}
 use Rattle.request_codec.specs.Sending.{Holds, IsCutOff, Sends, Sent}
 use Rattle.request_codec.proofs.Sendings.{cut_at, cut_flushed, sent_flushed, sent_none}
 use Rattle.rio_base.proofs.Exits.{on_err}
-use Rattle.request_codec.specs.Reading.{Reading}
+use Rattle.request_codec.specs.Lines.{Reading}
 use Rattle.line_loop.specs.Asking.{AskEnds, Refuses, Stops}
 use Rattle.line_loop.specs.declared.ends.ServeEnd.{ServeEnd}
 use Rattle.line_loop.specs.declared.ends.ServeEnd.TheVariants.{End, SourceFault, SinkFault, InputLimit, Memory, Stopped}

@@ -3,14 +3,13 @@ use Rattle.std.proofs.Common.{◌≡◌, ◌≢◌, ℕ, zero, suc, ◌+◌, ◌
 use Rattle.std.specs.Prelude.{Option, Some, None, ◌⊎◌}
 use Rattle.std.proofs.lemmas.List.{append-nil, take-append-drop, take_at}
 use Rattle.rio_base.specs.Blocks.{Health}
-use Rattle.rio_base.specs.Pieces.{Lacks, onto, pieces}
+use Rattle.rio_base.specs.Bytes.{Lacks, onto, pieces}
 use Rattle.rio_base.specs.Streams.{appended, prepended, IsSpent}
 use Rattle.rio_base.specs.Volume.{Below}
 use Rattle.request_codec.specs.declared.lines.NextLine.TheVariants.{End as NoLine}
 use Rattle.request_codec.specs.declared.lines.LineFail.{LineFail}
 use Rattle.request_codec.specs.declared.lines.LineFail.TheVariants.{Fault, Limit, Memory as NoMemory}
-use Rattle.request_codec.specs.Reading.{Reading}
-use Rattle.request_codec.specs.Lines.{Fails, Gives, HasEnded, HasNoEnd, Passes, TakesLine, ended, lines}
+use Rattle.request_codec.specs.Lines.{Fails, Gives, HasEnded, HasNoEnd, Passes, Reading, TakesLine, ended, lines}
 use Rattle.request_codec.specs.Sending.{IsCutOff, Sent}
 use Rattle.line_loop.specs.declared.effects.Effect.{Effect}
 use Rattle.line_loop.specs.declared.effects.Effect.TheVariants.{Nothing}

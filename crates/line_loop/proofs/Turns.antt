@@ -3,18 +3,17 @@ use Rattle.std.proofs.Common.{◌≡◌, ◌≢◌, ◌⊎◌, ◌≤◌, ◌^�
 use Rattle.std.specs.Prelude.{Option, Some, None, Result, Ok, Err, OnErr}
 use Rattle.rio_base.specs.declared.failures.Stopped.{Stopped as MachineStopped}
 use Rattle.rio_base.specs.Blocks.{Health}
-use Rattle.rio_base.specs.Counts.{Rose}
+use Rattle.rio_base.specs.Failures.{Rose}
 use Rattle.rio_base.specs.Volume.{Below, LimitLasts}
-use Rattle.request_codec.specs.Reading.{Reading}
+use Rattle.request_codec.specs.Lines.{Reading}
 use Rattle.request_codec.specs.Sending.{IsCutOff, Sent}
 use Rattle.line_loop.specs.declared.effects.Effect.{Effect}
 use Rattle.line_loop.specs.declared.effects.Effect.TheVariants.{Nothing, Arms}
 use Rattle.line_loop.specs.declared.ends.ServeEnd.{ServeEnd}
 use Rattle.line_loop.specs.declared.ends.ServeEnd.TheVariants.{End, SourceFault, SinkFault, InputLimit, Memory, Stopped}
-use Rattle.line_loop.specs.Answering.{Answering, AnswersLine}
+use Rattle.line_loop.specs.Protocol.{Answering, AnswersLine, Protocol, GoesMore, GoesNone}
 use Rattle.line_loop.specs.Asking.{AskEnds, AsksFor, Refuses, Stops}
 use Rattle.line_loop.specs.Gathering.{GoesLess, RunsOn, StaysCalm, StaysStill, effect_in}
-use Rattle.line_loop.specs.Protocol.{Protocol, GoesMore, GoesNone}
 use Rattle.line_loop.specs.ServeRun.{RunEnds}
 use Rattle.line_loop.proofs.Running.{Ended, Took, ask_end, no_start, sink_end, stop_end, stopped_end, took_more, took_sent, took_start, way_end}
 

@@ -3,7 +3,7 @@ use Rattle.std.proofs.Common.{◌≡◌, ◌≢◌, ◌⊎◌, ℕ, zero, suc, �
 use Rattle.std.specs.Prelude.{Option, Some, None, Result, Ok, Err, OnErr, OnOk}
 use Rattle.std.proofs.lemmas.Bool.{cases_order}
 use Rattle.std.proofs.lemmas.List.{append-nil, drop_all, take-append-drop, take-append-le, take_all, take_at}
-use Rattle.rio_base.specs.Counts.{HasCause}
+use Rattle.rio_base.specs.Failures.{HasCause}
 use Rattle.rio_base.specs.Streams.{appended}
 use Rattle.request_codec.specs.Sending.{Sends, Sent}
 use Rattle.line_loop.specs.declared.effects.Effect.{Effect}

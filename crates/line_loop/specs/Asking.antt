@@ -2,8 +2,7 @@
 use Rattle.std.specs.Prelude.{◌≡◌, ◌≢◌, ◌≤◌, ◌^◌, ◌⊎◌, ℕ, true, false, List, [], Option}
 use Rattle.request_codec.specs.declared.lines.NextLine.TheVariants.{End as NoLine}
 use Rattle.request_codec.specs.declared.lines.LineFail.TheVariants.{Fault, Limit}
-use Rattle.request_codec.specs.Lines.{Fails, Gives, HasEnded, Passes, TakesLine}
-use Rattle.request_codec.specs.Reading.{Reading}
+use Rattle.request_codec.specs.Lines.{Fails, Gives, HasEnded, Passes, Reading, TakesLine}
 use Rattle.request_codec.specs.Sending.{IsCutOff, Sent}
 use Rattle.line_loop.specs.declared.ends.ServeEnd.{ServeEnd}
 use Rattle.line_loop.specs.declared.ends.ServeEnd.TheVariants.{End, SourceFault, SinkFault, InputLimit, Memory, Stopped}

@@ -1,7 +1,6 @@
-pub mod Protocol
-pub mod Answering
-pub mod ServeRun
-pub mod Gathering
 pub mod Asking
+pub mod Gathering
 pub mod LinesEnds
+pub mod Protocol
+pub mod ServeRun
 pub mod Strikes

@@ -2,11 +2,10 @@
 
 ghost use Rattle.std.specs.Prelude.{◌≡◌, ◌<◌, ◌≤◌, ◌∷◌, [], ℕ, List, true, Some, None, IfOk, OnOk, OnErr, length, take};
 ghost use Rattle.rio_base.specs.Blocks.{Health};
-ghost use Rattle.rio_base.specs.Counts.{HasCause};
+ghost use Rattle.rio_base.specs.Failures.{HasCause};
 ghost use Rattle.rio_base.specs.Streams.{appended};
 ghost use Rattle.rio_base.specs.Volume.{Below, LimitLasts};
-ghost use Rattle.line_loop.specs.Protocol.{Protocol, GoesMore, GoesNone};
-ghost use Rattle.line_loop.specs.Answering.{Answering};
+ghost use Rattle.line_loop.specs.Protocol.{Protocol, GoesMore, GoesNone, Answering};
 ghost use Rattle.line_loop.specs.Gathering.{GoesLess, RunsOn, StaysCalm, StaysStill};
 ghost use Rattle.line_loop.specs.declared.effects.Effect.{Effect as EffectOf};
 ghost use Rattle.request_codec.specs.Sending.{Puts};

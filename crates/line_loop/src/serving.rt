@@ -1,11 +1,11 @@
 //! Serving lines until the input ends.
 
 ghost use Rattle.std.specs.Prelude.{◌≡◌, ◌≢◌, ◌≤◌, ◌^◌, ◌⊎◌, ◌∷◌, ℕ, List, true, false, [], Some, IfOk, IfErr, IsErrOf, OnOk, OnErr};
-ghost use Rattle.rio_base.specs.Counts.{Rose};
+ghost use Rattle.rio_base.specs.Failures.{Rose};
 ghost use Rattle.rio_base.specs.Streams.{IsSpent};
 ghost use Rattle.rio_base.specs.Volume.{LimitLasts};
 ghost use Rattle.request_codec.specs.Sending.{Sent};
-ghost use Rattle.line_loop.specs.Answering.{AnswersLine};
+ghost use Rattle.line_loop.specs.Protocol.{AnswersLine};
 ghost use Rattle.line_loop.specs.Asking.{AskEnds, AsksFor, Refuses, Stops};
 ghost use Rattle.line_loop.specs.Gathering.{effect_in};
 ghost use Rattle.line_loop.specs.ServeRun.{RunEnds};

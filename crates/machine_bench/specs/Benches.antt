@@ -1,8 +1,12 @@
--- The machine that a bench makes, the disk that it hands back, and what it tells of both ends.
-use Rattle.std.specs.Prelude.{◌≡◌, ◌++◌, ℕ, Bool, true, false, List, Option, None, is_some}
-use Rattle.rio_base.specs.Disks.{DiskContents, is_pending}
+-- The machine that a bench makes, the disk that it hands back, what it tells of both ends, and what is kept of a machine.
+use Rattle.std.specs.Prelude.{◌≡◌, ◌++◌, ℕ, ◌/◌, Bool, true, false, List, Option, None, is_some, length}
+use Rattle.std.specs.Option.{option_map}
+use Rattle.rio_base.specs.Disks.{DiskContents, blocks_of, is_pending}
 use Rattle.rio_base.specs.Machine.{Contents, Running}
+use Rattle.phys_memory.specs.PhysMem.{words_of}
 use Rattle.board.specs.Boards.{protected_count, protected_of, scratch_of}
+use Rattle.machine_bench.specs.declared.kept.KeptEnd.{KeptEnd}
+use Rattle.machine_bench.specs.declared.kept.KeptStart.{KeptStart}
 
 -- ---- the machine as it is made
 
@@ -67,3 +71,15 @@ pub record Leaving : Type 0 where
 
 abbrev pub left_by : Contents → Running → Leaving
 left_by c r = record { words = c.words ++ r.scratch; faults = c.faults.count; stopped = r.stopped; trapped = r.trapped }
+
+-- ---- what is kept of a machine
+
+abbrev pub began_of : KeptStart → Began
+began_of k = record { words = k.words.items; blocks = blocks_of k.blocks.items; scratch = k.scratch; stop = k.stop_after }
+
+-- how many pages it had
+abbrev pub pages_of : KeptStart → ℕ
+pages_of k = length k.words.items / 512
+
+abbrev pub left_of : KeptEnd → Leaving
+left_of k = record { words = words_of k.memory; faults = k.faults; stopped = k.stopped; trapped = option_map (λ at. at.0) k.trapped }

@@ -49,7 +49,7 @@ impl KeepBench {
 
 impl<H: Host> Bench<HostDisk<H>> for KeepBench {
     ghost use Rattle.std.specs.Option.{option_map};
-    ghost use Rattle.machine_bench.specs.KeptMachines.{began_of, left_of, pages_of};
+    ghost use Rattle.machine_bench.specs.Benches.{began_of, left_of, pages_of};
 
     type M = Board<Memory, HostDisk<H>>;
 

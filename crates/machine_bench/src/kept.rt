@@ -3,7 +3,7 @@
 ghost use Rattle.std.specs.Prelude.{◌≡◌, ◌<◌, ◌≤◌, ◌+◌, ◌*◌, IfOk, length};
 ghost use Rattle.rio_base.specs.Disks.{block_at, blocks_of};
 ghost use Rattle.rio_base.specs.Memory.{page_at};
-ghost use Rattle.machine_bench.specs.KeptMachines.{began_of, left_of};
+ghost use Rattle.machine_bench.specs.Benches.{began_of, left_of};
 
 use block_disk::HostDisk;
 use phys_memory::Memory;

@@ -11,7 +11,7 @@ use Rattle.rio_model.specs.Registry.{HasLayout, IsValid, KeepsRegistry, frames_o
 use Rattle.rio_model.proofs.RegistryRules.{layout_of}
 use Rattle.cached_pages.specs.Caches.{IsFresh, cache_seen}
 use Rattle.cached_pages.specs.declared.tables.CacheTables.{CacheTables}
-use Rattle.machine_tests.specs.Blanks.{IsBlank}
+use Rattle.machine_tests.specs.TestMachines.{IsBlank}
 use Rattle.machine_tests.specs.Walks.{Walks}
 use Rattle.machine_tests.proofs.TestImages.{within_registry}
 

@@ -5,7 +5,7 @@ use Rattle.rio_base.specs.Image.{AreImageSizes, image_magic, registry_pages}
 use Rattle.rio_base.specs.Machine.{Contents, Running}
 use Rattle.rio_base.specs.Rules.{true_false}
 use Rattle.rio_model.specs.Registry.{HasLayout, IsValid, KeepsRegistry, is_dirty, tag_at, tag_block}
-use Rattle.machine_tests.specs.Ready.{IsTestHeader, NoneOrDirty, Ready}
+use Rattle.machine_tests.specs.TestMachines.{IsTestHeader, NoneOrDirty, Ready}
 
 sizes : AreImageSizes 64 1
 sizes = record { least_frames = omega arith; most_frames = omega arith; least_scratch = omega arith; most_scratch = omega arith }

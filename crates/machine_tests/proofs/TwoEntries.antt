@@ -11,7 +11,7 @@ use Rattle.rio_model.proofs.CoverFills.{puts_frame}
 use Rattle.rio_model.proofs.CoverSteps.{coherent_on, layout_is}
 use Rattle.rio_model.specs.Registry.{HasLayout, IsValid, KeepsRegistry, frames_of, gate_of, is_data, is_dirty, is_valid, scratch_of, shadow_at, tag_at, tag_block, tag_of}
 use Rattle.shadow_pages.specs.Updates.{AreEntries, ListsShadows}
-use Rattle.machine_tests.specs.TwoEntries.{HasTwo}
+use Rattle.machine_tests.specs.TestMachines.{HasTwo}
 
 -- ---- at first
 

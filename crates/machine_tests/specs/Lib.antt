@@ -1,4 +1,2 @@
-pub mod Blanks
-pub mod Ready
-pub mod TwoEntries
+pub mod TestMachines
 pub mod Walks

@@ -5,7 +5,7 @@ ghost use Rattle.std.specs.Prelude.{◌≡◌, ◌<◌, ◌≤◌, ℕ, false, s
 ghost use Rattle.image_codec.specs.Image.{IsImage};
 ghost use Rattle.rio_base.specs.Image.{AreImageSizes, entry_at};
 ghost use Rattle.cached_pages.specs.Caches.{IsFresh};
-ghost use Rattle.machine_tests.specs.Blanks.{IsBlank};
+ghost use Rattle.machine_tests.specs.TestMachines.{IsBlank};
 ghost use Rattle.machine_tests.specs.Walks.{Walks};
 
 use crate::crashes::{is_unwritten, judge_crash};

@@ -3,7 +3,7 @@
 
 ghost use Rattle.std.specs.Prelude.{◌≡◌, ◌<◌, ◌≤◌, ◌+◌, ◌*◌, ℕ, true, false, None, IsTrue, length};
 ghost use Rattle.rio_model.specs.Registry.{HasLayout, frames_of, tag_at};
-ghost use Rattle.machine_tests.specs.Ready.{IsTestHeader, NoneOrDirty, Ready};
+ghost use Rattle.machine_tests.specs.TestMachines.{IsTestHeader, NoneOrDirty, Ready};
 
 use crate::machines::{MemBoard, Mishap, board_on, disk_of};
 use block_disk::{DiskChoice, MemDisk};

@@ -5,7 +5,7 @@ ghost use Rattle.std.specs.Prelude.{◌≡◌, ◌-◌, ◌<◌, ◌≤◌, ◌%
 ghost use Rattle.block_disk.specs.MemDisks.{state_of};
 ghost use Rattle.rio_base.specs.Image.{AreImageSizes};
 ghost use Rattle.phys_memory.specs.PhysMem.{words_of};
-ghost use Rattle.machine_tests.specs.Blanks.{IsBlank};
+ghost use Rattle.machine_tests.specs.TestMachines.{IsBlank};
 ghost use Rattle.machine_tests.specs.Walks.{Walks};
 
 use crate::cache_walks::{Course, blank_image, blank_tables, go, walked};

@@ -4,7 +4,7 @@
 ghost use Rattle.std.specs.Prelude.{◌≡◌, ◌≢◌, ◌<◌, ◌≤◌, ◌⊎◌, ℕ, true, false, None, OnOk, length};
 ghost use Rattle.rio_base.specs.Image.{HasHeader};
 ghost use Rattle.rio_model.specs.Registry.{HasLayout, IsValid, KeepsRegistry, frames_of, gate_of, scratch_of, shadow_at, tag_at, tag_of};
-ghost use Rattle.machine_tests.specs.TwoEntries.{HasTwo};
+ghost use Rattle.machine_tests.specs.TestMachines.{HasTwo};
 ghost use Rattle.shadow_pages.specs.Updates.{AreBare};
 
 use crate::machines::{MemBoard, Mishap, board_on, disk_of};

@@ -1,7 +1,7 @@
 //! Tests of what writes back, on machines whose first five entries are dirty. After each call the disk crashes, so that
 //! pending blocks are lost, and each of the five blocks still reads as it did.
 
-ghost use Rattle.machine_tests.specs.Ready.{Ready};
+ghost use Rattle.machine_tests.specs.TestMachines.{Ready};
 
 use crate::cached::{Found, found_in, machine_with};
 use crate::machines::Mishap;

@@ -7,7 +7,7 @@ use Rattle.std.proofs.lemmas.Nat.Bits.{bit_at-zero}
 use Rattle.rio_model.specs.declared.node.RegionNode.{RegionNode}
 use Rattle.rio_model.specs.Heap.{OfBlocks, blocks_from, run_length, starts, used}
 use Rattle.rio_model.specs.Undo.{IsRegion, Links, Within, before, before_by, data_from, live, places, records_from, region_magic, taken, undo_records, region_words}
-use Rattle.node_making.specs.NewRegions.{new_held, new_word}
+use Rattle.node_making.specs.NewNodes.{new_held, new_word}
 
 -- behind the header all is zero
 pub new_zero : (undo pages y : ℕ) → 3 ≤ y → new_word undo pages y ≡ 0

@@ -2,7 +2,7 @@
 use Rattle.request_ends.proofs.Common.{◌≡◌, ◌≢◌, ℕ, ◌<◌, ◌⊎◌, List, refl, sym, ap, subst, ◌∙◌, arith, inl, inr, Result, Ok, Err, IsErrOf, Some, get, cases_eq, Ino, VolumeShape, BlockWords, Region, State, held_of, names_of, walk, reads_dir, reads_file, reads_region, ReadsAs, region_in, Inode}
 use Rattle.rio_model.specs.declared.node.RegionNode.{RegionNode}
 use Rattle.request_ends.specs.Failures.{Unrefused}
-use Rattle.node_making.specs.NewRegions.{FindsRegion}
+use Rattle.node_making.specs.NewNodes.{FindsRegion}
 use Rattle.file_tree.specs.Walks.{Comes, ino_in}
 use Rattle.request_ends.specs.declared.failures.FileFail.{FileFail}
 use Rattle.request_ends.specs.declared.failures.FileFail.TheVariants.{Refused, Fault, Stopped, Memory}

@@ -16,7 +16,7 @@ use Rattle.node_pages.specs.declared.changes.SizeChange.{SizeChange}
 use Rattle.node_pages.proofs.Listed.{place_of}
 use Rattle.node_pages.proofs.Skipped.{among_at, left_are_free}
 use Rattle.node_updates.specs.Changes.{of_size}
-use Rattle.node_making.specs.NewRegions.{FitRegion, PlansRegion, header_name, header_words, new_held, new_word}
+use Rattle.node_making.specs.NewNodes.{FitRegion, PlansRegion, header_name, header_words, new_held, new_word}
 use Rattle.node_updates.specs.declared.changes.NodeChange.{NodeChange}
 use Rattle.node_making.specs.declared.regions.RegionSizes.{RegionSizes}
 use Rattle.node_making.proofs.NewRegionWords.{new_zero}

@@ -4,7 +4,7 @@ use Rattle.directories.specs.RowChanges.{AddsRow}
 use Rattle.rio_requests.specs.Answers.{new_region}
 use Rattle.std.proofs.Common.{None}
 use Rattle.file_tree.proofs.NameSteps.{by_two, dirs_apart, insert_back, insert_some, row_comes}
-use Rattle.node_making.specs.NewRegions.{new_held}
+use Rattle.node_making.specs.NewNodes.{new_held}
 use Rattle.file_tree.proofs.RowReads.{EachReads, OneReads, SoundReads, bare_names, by_each, of_each, one_changes, one_stays, sound_of}
 use Rattle.node_making.proofs.NewRegionWords.{new_reads, new_sound}
 

@@ -13,7 +13,7 @@ use Rattle.node_pages.specs.Changes.{free_beside}
 use Rattle.node_pages.specs.declared.failures.SizeFail.TheVariants.{Fault as SizeFault, Stopped as SizeStopped, Memory as SizeMemory}
 use Rattle.node_pages.proofs.Skipped.{count_beside}
 use Rattle.request_ends.specs.Failures.{fail_of_size}
-use Rattle.node_making.specs.NewRegions.{FitRegion}
+use Rattle.node_making.specs.NewNodes.{FitRegion}
 use Rattle.node_making.specs.declared.regions.RegionSizes.{RegionSizes}
 use Rattle.request_ends.proofs.AnsweredAt.{FailsBy}
 use Rattle.region_view.proofs.RegionHeader.{used_size}

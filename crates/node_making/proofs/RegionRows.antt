@@ -1,9 +1,8 @@
 -- A region and its row, made in one update: that the changes can be made, and the state that they come to.
 use Rattle.request_ends.proofs.Common.{◌≡◌, ◌≢◌, ℕ, zero, suc, ◌<◌, ◌≤◌, ◌⊎◌, Bool, true, false, List, [], ◌∷◌, map, refl, sym, ap, subst, ◌∙◌, arith, inl, inr, None, Some, get, AllByRecursion, Contains, cases_eq, PageName, VolumeShape, CachesBy, BlockWords, Seen, IsIno, inode_block, reserved, Kept, Settled, numbers, Region, State, with_new, Held, held_of, Available, Change, IsName, Slot, AtPage, AtTable, Placed, Agrees, HasSlot, IsFree, placed_at, volume_layout, SameLayout, inode_low, lays_agree, lays_same, lays_self, node_fits, owned_on, Applied, ReadsAs, Bears, LeavesInUse, NamedNode, Ready, IsMapped, NodeFits, leaves_trans, ready_left, InOrder, IsEdited, Edit}
-use Rattle.directories.specs.Making.{MayBeMade}
+use Rattle.directories.specs.Plans.{MayBeMade, PlansDir, SameBlocks}
 use Rattle.directories.proofs.MakingOrder.{plan_edits}
 use Rattle.directories.proofs.MakingRules.{plan_change, DisjointNodes, may_after, may_begin, may_still}
-use Rattle.directories.specs.Plans.{PlansDir, SameBlocks}
 use Rattle.directories.specs.Rows.{HasRow}
 use Rattle.directories.specs.declared.changes.DirChange.{DirChange}
 use Rattle.rio_requests.specs.Answers.{new_region}
@@ -19,7 +18,7 @@ use Rattle.rio_model.proofs.UpdateRules.{edited_out, turned_held}
 use Rattle.rio_model.specs.Updates.{Turns, Update, WordEdit, edited}
 use Rattle.node_pages.specs.Changes.{EditsTable, Spares, wanted_blocks, word_edit}
 use Rattle.node_updates.specs.Changes.{IsTouchedBy, change_update, of_dir}
-use Rattle.node_making.specs.NewRegions.{FitRegion, PlansRegion, new_held}
+use Rattle.node_making.specs.NewNodes.{FitRegion, PlansRegion, new_held}
 use Rattle.node_making.proofs.ReadMade.{tree_new}
 use Rattle.node_updates.specs.declared.changes.NodeChange.{NodeChange}
 use Rattle.node_making.specs.declared.regions.RegionSizes.{RegionSizes}

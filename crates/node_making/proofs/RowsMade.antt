@@ -4,7 +4,7 @@ use Rattle.rio_model.specs.Undo.{region_words}
 use Rattle.rio_model.specs.States.{least_free}
 use Rattle.std.specs.Prelude.{Option, length}
 use Rattle.rio_requests.specs.Answers.{make, make_row, region_at, region_row, at_row, new_region}
-use Rattle.node_making.specs.NewRegions.{FitRegion}
+use Rattle.node_making.specs.NewNodes.{FitRegion}
 use Rattle.file_tree.specs.Walks.{FreeRow}
 use Rattle.request_ends.specs.declared.failures.FileFail.{FileFail}
 use Rattle.request_ends.specs.declared.failures.FileFail.TheVariants.{Refused, Fault, Stopped, Memory}

@@ -1,2 +1,1 @@
 pub mod NewNodes
-pub mod NewRegions

@@ -15,14 +15,14 @@ ghost use Rattle.rio_model.specs.VolumeReads.{ReadsAs};
 ghost use Rattle.rio_model.specs.VolumeReady.{LeavesInUse, Ready};
 ghost use Rattle.inode_table.specs.Inodes.{IsInode};
 ghost use Rattle.node_pages.specs.Changes.{Apart, Spares, free_beside};
-ghost use Rattle.node_pages.specs.Forgetting.{Forgets};
+ghost use Rattle.node_pages.specs.Staging.{Forgets};
 ghost use Rattle.directories.specs.Rows.{HasRow};
 ghost use Rattle.rio_requests.specs.Answers.{make_new as make_new_of, make_region as make_region_of, new_region, region_row};
 ghost use Rattle.rio_requests.specs.Parts.{NoneDone};
 ghost use Rattle.request_ends.specs.Ends.{CanServe, FileEnds, SaysIno, SaysNumber};
 ghost use Rattle.request_ends.specs.Failures.{Faulted};
 ghost use Rattle.file_tree.specs.Memos.{InStep};
-ghost use Rattle.node_making.specs.NewRegions.{FindsRegion, FitRegion, PlansRegion, SizesRegion, header_name, header_words};
+ghost use Rattle.node_making.specs.NewNodes.{FindsRegion, FitRegion, PlansRegion, SizesRegion, header_name, header_words};
 ghost use Rattle.file_tree.specs.Walks.{FreeRow, ino_in};
 
 use crate::new_nodes::{NewNode, make_new};

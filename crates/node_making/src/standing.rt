@@ -11,7 +11,7 @@ ghost use Rattle.region_view.specs.Views.{KeepsInode, OnRegion};
 ghost use Rattle.request_ends.specs.Ends.{CanServe};
 ghost use Rattle.request_ends.specs.Failures.{Faulted};
 ghost use Rattle.file_tree.specs.Memos.{InStep};
-ghost use Rattle.node_making.specs.NewRegions.{FindsRegion};
+ghost use Rattle.node_making.specs.NewNodes.{FindsRegion};
 
 use crate::regions::region_at;
 use file_tree::Memo;

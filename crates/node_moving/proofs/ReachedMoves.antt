@@ -1,8 +1,7 @@
 -- The state that is read once the changes of a rename are made, where two directories change or a node goes.
 use Rattle.request_ends.proofs.Common.{◌≡◌, ◌≢◌, ℕ, ◌<◌, ◌≤◌, ◌⊎◌, List, [], ◌∷◌, map, sym, ap, subst, ◌∙◌, arith, inl, inr, None, get, cases_eq, Block, VolumeShape, BlockWords, Seen, IsIno, Kept, numbers, State, Held, held_of, Available, IsName, Slot, Placed, HasSlot, Owns, placed_at, volume_layout, SamePlaced, has_same, Applied, ReadsAs, IsMapped, TreeRule, node_blocks, InOrder}
-use Rattle.directories.specs.Making.{MayBeMade}
+use Rattle.directories.specs.Plans.{MayBeMade, dir_update}
 use Rattle.directories.proofs.MakingRules.{plan_change, DisjointNodes, may_still}
-use Rattle.directories.specs.Plans.{dir_update}
 use Rattle.directories.specs.Rows.{IsEntry}
 use Rattle.directories.specs.declared.changes.DirChange.{DirChange}
 use Rattle.rio_requests.specs.Answers.{moved, replaced}

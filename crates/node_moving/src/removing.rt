@@ -12,7 +12,7 @@ ghost use Rattle.rio_requests.specs.Answers.{without, unlink as unlink_of, rmdir
 ghost use Rattle.rio_requests.specs.Parts.{NoneDone};
 ghost use Rattle.rio_model.specs.Paths.{IsPath};
 ghost use Rattle.rio_model.specs.Placed.{volume_layout};
-ghost use Rattle.node_pages.specs.Forgetting.{Forgets};
+ghost use Rattle.node_pages.specs.Staging.{Forgets};
 ghost use Rattle.request_ends.specs.Ends.{CanServe, FileEnds, SaysDone};
 ghost use Rattle.request_ends.specs.Failures.{Faulted};
 ghost use Rattle.file_tree.specs.Memos.{InStep};

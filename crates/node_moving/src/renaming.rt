@@ -12,7 +12,7 @@ ghost use Rattle.directories.specs.Rows.{HasRow};
 ghost use Rattle.rio_requests.specs.Answers.{move_row as move_row_of, rename as rename_of, rename_row as rename_row_of, replace_row as replace_row_of};
 ghost use Rattle.rio_requests.specs.Parts.{NoneDone};
 ghost use Rattle.rio_model.specs.Placed.{volume_layout};
-ghost use Rattle.node_pages.specs.Forgetting.{Forgets};
+ghost use Rattle.node_pages.specs.Staging.{Forgets};
 ghost use Rattle.request_ends.specs.Ends.{CanServe, FileEnds, SaysDone};
 ghost use Rattle.request_ends.specs.Failures.{Faulted};
 ghost use Rattle.file_tree.specs.Memos.{InStep};

@@ -1,6 +1,6 @@
 -- Blocks that are forgotten, one after the other.
 use Rattle.node_pages.proofs.Common.{◌≡◌, ℕ, ◌+◌, ◌<◌, ◌≤◌, false, List, length, sym, subst, arith, inl, inr, slice_index, Contains, cases_eq, Block, Drops, Seen, numbers}
-use Rattle.node_pages.specs.Forgetting.{Uncached}
+use Rattle.node_pages.specs.Staging.{Uncached}
 use Rattle.node_pages.proofs.Listed.{as_many, place_of}
 use Rattle.node_pages.proofs.Staged.{not_true}
 

@@ -7,9 +7,8 @@ use Rattle.rio_model.specs.Placed.{Lies}
 use Rattle.rio_model.proofs.PlacedRules.{cases_lt, node_fits}
 use Rattle.rio_model.proofs.UpdateRules.{high_half, low_half, run_edits_node, run_in, run_out}
 use Rattle.rio_model.specs.Updates.{EditsNode}
-use Rattle.node_pages.specs.Changes.{PlansFor, given_node, planned_node, size_update, word_edit}
+use Rattle.node_pages.specs.Changes.{PlansFor, given_node, new_direct, new_number, new_word, planned_node, size_update, word_edit}
 use Rattle.node_pages.proofs.GrowingLaws.{end_word, first_word}
-use Rattle.node_pages.specs.Growing.{new_direct, new_number, new_word}
 use Rattle.node_pages.specs.declared.changes.SizeChange.{SizeChange}
 use Rattle.node_pages.proofs.Given.{Given, given_of}
 use Rattle.node_pages.proofs.Listed.{listed, place_of}

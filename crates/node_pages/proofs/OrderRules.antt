@@ -3,14 +3,13 @@ use Rattle.node_pages.proofs.Common.{◌≡◌, ℕ, ◌<◌, ◌⊎◌, Bool, t
 use Rattle.rio_model.proofs.NodeChangeRules.{laid_replaced, mapped_replaced}
 use Rattle.rio_model.proofs.NamedRules.{bears_same, named_layout}
 use Rattle.rio_model.proofs.PlacedRules.{has_back, lays_agree, mapped_agree}
-use Rattle.rio_model.specs.PlacedRules.{SamePlaced}
+use Rattle.rio_model.specs.Placed.{SamePlaced}
 use Rattle.rio_model.specs.VolumeReady.{Firmly, InOrder, StandsReady}
 use Rattle.node_pages.specs.LookingUp.{LooksUp}
 use Rattle.node_pages.proofs.LookingUpRules.{named_on}
 use Rattle.node_pages.specs.Staging.{Beside}
-use Rattle.node_pages.specs.Updating.{IsEdited, IsUpdated}
+use Rattle.node_pages.specs.Updating.{IsEdited, IsUpdated, TableOrFree}
 use Rattle.node_pages.specs.declared.changes.Edit.{Edit}
-use Rattle.node_pages.specs.OrderRules.{TableOrFree}
 
 -- ---- ready, and in order
 

@@ -2,8 +2,7 @@
 use Rattle.node_pages.proofs.Common.{BlockWords, ◌≡◌, ◌≢◌, ℕ, zero, suc, ◌+◌, ◌-◌, ◌*◌, ◌<◌, ◌≤◌, ◌==◌, ◌||◌, ◌⊎◌, min, true, false, cond, List, [], ◌∷◌, length, map, refl, sym, ap, subst, ◌∙◌, arith, inl, inr, nat_le, slice_index, Option, None, Some, AllByRecursion, Contains, cases_eq, nat_tests, PageName, VolumeShape, Block, Health, Seen, Below, Kept, Passes, numbers, IsNew, most_tables, one_table, same_old, sourced, Takes, grown, Slot, AtPage, AtTable, Placed, HasSlot, Layout, volume_layout, Owned, IsFree, largest_size, pages, tables, WordEdit, run_edits, Bears, LeavesInUse, Ready}
 use Rattle.rio_model.proofs.GrowthRules.{no_table}
 use Rattle.rio_model.proofs.PlacedRules.{cases_lt}
-use Rattle.node_pages.specs.Changes.{EditsTable, Staged, wanted_blocks, word_edit}
-use Rattle.node_pages.specs.Growing.{new_direct, new_word}
+use Rattle.node_pages.specs.Changes.{EditsTable, Staged, new_direct, new_word, wanted_blocks, word_edit}
 use Rattle.node_pages.specs.LookingUp.{LooksUp}
 use Rattle.node_pages.proofs.OrderRules.{leaves_beside, leaves_looked, leaves_trans, ready_left}
 use Rattle.node_pages.specs.Staging.{Beside, Zeroed, taken_name}

@@ -1,7 +1,6 @@
 -- A growth that is planned: what the calls give that plan it is a change to the larger size.
 use Rattle.node_pages.proofs.Common.{◌≡◌, ℕ, ◌+◌, ◌-◌, ◌%◌, ◌^◌, ◌<◌, ◌≤◌, List, [], length, map, refl, sym, ap, subst, ◌∙◌, arith, slice_index, Block, VolumeShape, BlockWords, Seen, IsIno, Kept, numbers, Inode, one_table, Takes, grown, AtPage, Placed, placed_at, volume_layout, IsFree, pages, tables, run_edits, IsLaid, SizeFits}
-use Rattle.node_pages.specs.Changes.{Apart, Grows, PlansFor, given_node, wanted_blocks, word_edit}
-use Rattle.node_pages.specs.Growing.{new_direct, new_word}
+use Rattle.node_pages.specs.Changes.{Apart, Grows, PlansFor, given_node, new_direct, new_word, wanted_blocks, word_edit}
 use Rattle.node_pages.specs.Staging.{Zeroed, taken_name}
 use Rattle.node_pages.specs.declared.changes.Edit.{Edit}
 use Rattle.node_pages.specs.declared.changes.SizeChange.{SizeChange}

@@ -2,8 +2,7 @@
 use Rattle.node_pages.proofs.Common.{◌≡◌, ◌≢◌, true, inl, inr, set, length, cases_eq, ℕ, ◌+◌, ◌-◌, ◌<◌, ◌≤◌, ◌&&◌, cond, List, [], ◌∷◌, ◌++◌, map, sym, ap, ◌∙◌, arith, min, slice_index, nat_lt, nat_le, nat_tests, map-append, WordEdit, run_edits}
 use Rattle.std.proofs.lemmas.List.{get_or-set_other, get_or-set_same}
 use Rattle.std.proofs.lemmas.List.FromFn.{map-range_with_len_more}
-use Rattle.node_pages.specs.Changes.{word_edit}
-use Rattle.node_pages.specs.Growing.{new_direct}
+use Rattle.node_pages.specs.Changes.{new_direct, word_edit}
 use Rattle.node_pages.specs.declared.changes.Edit.{Edit}
 
 abbrev edit_at : ℕ → (ℕ → ℕ) → ℕ → WordEdit

@@ -1,5 +1,5 @@
--- A prepared change of a node's size, and what it makes of the node.
-use Rattle.std.specs.Prelude.{◌≡◌, ℕ, ◌-◌, ◌<◌, ◌≤◌, ◌⊎◌, Bool, ◌==◌, ◌||◌, true, false, not, None, List, [], ◌∷◌, length, map, slice_index, take}
+-- A prepared change of a node's size, the numbers that a growing node gets, and what the change makes of the node.
+use Rattle.std.specs.Prelude.{ℕ, ◌+◌, ◌-◌, ◌*◌, ◌^◌, ◌&&◌, ◌≡◌, ◌<◌, ◌≤◌, ◌⊎◌, ◌==◌, ◌||◌, ◌∷◌, nat_lt, nat_le, if◌then◌else◌, List, slice_index, Bool, true, false, not, None, [], length, map, take}
 use Rattle.std.specs.List.{AllByRecursion, Contains, filter}
 use Rattle.rio_base.specs.declared.places.Block.{Block}
 use Rattle.rio_base.specs.declared.places.VolumeShape.{VolumeShape}
@@ -7,16 +7,32 @@ use Rattle.rio_base.specs.Bitmap.{free_blocks}
 use Rattle.rio_base.specs.Blocks.{BlockWords, Seen}
 use Rattle.rio_base.specs.Layout.{inode_kind}
 use Rattle.rio_base.specs.Volume.{Kept}
-use Rattle.block_alloc.specs.Bitmap.{numbers}
-use Rattle.inode_table.specs.declared.inode.Inode.{Inode}
-use Rattle.inode_table.specs.Inodes.{IsInode, inode_words}
 use Rattle.rio_model.specs.NodeChanges.{Available, Takes, grown}
 use Rattle.rio_model.specs.Placed.{Slot, AtTable, Placed, HasSlot, Layout, placed_at, volume_layout, IsFree}
 use Rattle.rio_model.specs.Sizes.{blocks_for}
 use Rattle.rio_model.specs.Updates.{Turns, Update, WordEdit}
 use Rattle.rio_model.specs.VolumeReady.{Bears}
+use Rattle.block_alloc.specs.Bitmap.{numbers}
+use Rattle.inode_table.specs.declared.inode.Inode.{Inode}
+use Rattle.inode_table.specs.Inodes.{IsInode, inode_words}
 use Rattle.node_pages.specs.declared.changes.Edit.{Edit}
 use Rattle.node_pages.specs.declared.changes.SizeChange.{SizeChange}
+
+-- ---- the numbers of a growing node: in its inode, and in its table
+
+-- the number of page p where the pages from `have` to `want` are those taken, and page have - 1 is in block `last`
+abbrev pub new_number : ℕ → ℕ → ℕ → List ℕ → ℕ → ℕ
+new_number last have want taken p = if nat_lt p have then last else if nat_lt p want then slice_index taken (p - have) else 0
+
+-- a word of the table
+abbrev pub new_word : ℕ → ℕ → ℕ → List ℕ → ℕ → ℕ
+new_word last have want taken w = new_number last have want taken (24 + 2 * w) + 2 ^ 32 * new_number last have want taken (25 + 2 * w)
+
+-- a number in the inode
+abbrev pub new_direct : List ℕ → ℕ → ℕ → List ℕ → ℕ → ℕ
+new_direct old have want taken p = if nat_le have p && nat_lt p want then slice_index taken (p - have) else slice_index old p
+
+-- ---- a prepared change
 
 abbrev pub word_edit : Edit → WordEdit
 word_edit e = record { block = e.block.0; word = e.word; value = e.value }

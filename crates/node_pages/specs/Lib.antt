@@ -1,9 +1,6 @@
 pub mod Changes
 pub mod Failures
-pub mod Forgetting
-pub mod Growing
 pub mod LookingUp
-pub mod OrderRules
 pub mod Staging
 pub mod Updating
 pub mod WordBytes

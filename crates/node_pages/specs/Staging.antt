@@ -1,9 +1,11 @@
--- Blocks that are not in use are made zero and named before a node takes them.
+-- Blocks that no node uses: they are made zero and named before a node takes them, and are not cached once a node has left
+-- them.
 use Rattle.std.specs.Prelude.{◌≡◌, ℕ, ◌+◌, ◌-◌, ◌*◌, ◌<◌, ◌==◌, ◌||◌, min, nat_le, if◌then◌else◌, true, false, List, slice_index, Option, Some, None}
 use Rattle.rio_base.specs.declared.places.PageName.{PageName}
 use Rattle.rio_base.specs.BlockSets.{CachesBy, FirmOutside, SameOutside}
 use Rattle.rio_base.specs.Blocks.{Seen}
 use Rattle.rio_base.specs.Volume.{Kept}
+use Rattle.rio_model.specs.Placed.{Layout, Owned}
 
 -- nothing differs outside a set of blocks: no word, read or standing, no block is loose there that was not, and none is
 -- newly cached
@@ -24,3 +26,13 @@ pub record Zeroed (taken : List ℕ) (name : ℕ → Option PageName) (n : ℕ) 
   pub zeros : (t w : ℕ) → t < n → y.words (slice_index taken t) w ≡ 0
   pub firm : (t : ℕ) → t < n → j.loose (slice_index taken t) ≡ false
   pub named : (t : ℕ) → t < n → y.cached (slice_index taken t) ≡ true → y.names (slice_index taken t) ≡ name t
+
+-- ---- blocks that nothing uses any more
+
+-- no block of these is cached
+abbrev pub Uncached : (ℕ → Type 0) → Seen → Type 0
+Uncached inside y = (b : ℕ) → inside b → y.cached b ≡ false
+
+-- no block is cached that some node had, and none has any more. l is the layout before the call, m after it
+abbrev pub Forgets : Layout → Layout → Seen → Type 0
+Forgets l m y = Uncached (λ b. Owned l b × (Owned m b → ⊥)) y

@@ -1,4 +1,4 @@
--- The update of a node's blocks, while it is made.
+-- The update of a node's blocks, while it is made, and which blocks its edits are in.
 use Rattle.std.specs.Prelude.{◌≡◌, ◌≢◌, ℕ, ◌+◌, ◌<◌, ◌≤◌, ◌⊎◌, true, List, slice_index, slice_index_or, Option, None}
 use Rattle.std.specs.List.{Contains}
 use Rattle.rio_base.specs.declared.places.PageName.{PageName}
@@ -8,6 +8,7 @@ use Rattle.rio_base.specs.Blocks.{BlockWords}
 use Rattle.rio_base.specs.Layout.{inode_block}
 use Rattle.rio_base.specs.Shapes.{reserved}
 use Rattle.rio_base.specs.Volume.{Kept}
+use Rattle.rio_model.specs.Placed.{AtTable, Layout, Owns, IsFree}
 use Rattle.node_pages.specs.declared.changes.Edit.{Edit}
 
 -- edits that can be made in an update, of words of blocks past the reserved ones, and blocks that can be marked and unmarked
@@ -46,3 +47,9 @@ pub record SetsBits (shape : VolumeShape) (f g : BlockWords) (blocks : List ℕ)
   pub elsewhere : (b w : ℕ) → b ≢ 1 → g b w ≡ f b w
   pub set : (t : ℕ) → t < n → used_bit shape g (slice_index blocks t) ≡ bit
   pub others : (b : ℕ) → ((t : ℕ) → t < n → slice_index blocks t ≢ b) → used_bit shape g b ≡ used_bit shape f b
+
+-- ---- an update of inode i: what it caches has no name
+
+-- a block of an edit is free, or a table of node i
+abbrev pub TableOrFree : Layout → ℕ → List Edit → Type 0
+TableOrFree l i edits = (b : ℕ) → IsEdited edits b → IsFree l b ⊎ ((k : ℕ) × Owns l i (AtTable k) × ((l.node i).block (AtTable k) ≡ b))

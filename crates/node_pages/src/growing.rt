@@ -3,8 +3,7 @@
 ghost use Rattle.std.specs.Prelude.{◌≡◌, ◌+◌, ◌-◌, ◌<◌, ◌≤◌, ℕ, length, map, slice_index, IfOk};
 ghost use Rattle.block_alloc.specs.Bitmap.{numbers};
 ghost use Rattle.rio_model.specs.Updates.{run_edits};
-ghost use Rattle.node_pages.specs.Changes.{word_edit};
-ghost use Rattle.node_pages.specs.Growing.{new_direct, new_number, new_word};
+ghost use Rattle.node_pages.specs.Changes.{new_direct, new_number, new_word, word_edit};
 
 use crate::changes::{Edit, EditList};
 use inode_table::{DIRECT_PAGES, Inode};

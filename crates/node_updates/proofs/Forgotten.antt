@@ -2,7 +2,7 @@
 use Rattle.request_ends.proofs.Common.{◌≡◌, ◌≢◌, ℕ, suc, ◌+◌, ◌<◌, ◌≤◌, ◌⊎◌, false, List, [], ◌∷◌, length, map, refl, sym, ap, subst, ◌∙◌, arith, inl, inr, slice_index_or, Result, Ok, Contains, cases_eq, VolFail, Block, VolumeShape, used_bit, SameOutside, BlockWords, Drops, Seen, reserved, Kept, numbers, Agrees, IsFree, Owned, volume_layout, SameLayout, lays_agree, lays_same, lays_self, owned_below, owned_on, Applied, IsMapped, bitmap_bits, Forgets}
 use Rattle.std.proofs.lemmas.List.{get_or_default}
 use Rattle.rio_model.proofs.PlacedRules.{has_bit}
-use Rattle.node_pages.specs.Forgetting.{Uncached}
+use Rattle.node_pages.specs.Staging.{Uncached}
 use Rattle.node_pages.proofs.Staged.{not_true}
 use Rattle.node_updates.specs.Changes.{AllApplied, IsFreed, change_update}
 use Rattle.node_updates.specs.Committing.{Commits}

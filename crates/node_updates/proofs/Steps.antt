@@ -1,9 +1,8 @@
 -- Changes of nodes made one after the other in one update: what each makes of its node, and that names of cached pages stay
 -- right from one to the next.
 use Rattle.request_ends.proofs.Common.{◌≡◌, ◌≢◌, ℕ, ◌*◌, ◌<◌, ◌≤◌, ◌⊎◌, Bool, true, false, List, [], Option, refl, sym, ap, subst, ◌∙◌, arith, inl, inr, nat_lt, nat_tests, Block, Held, held, held_of, same_held, AllByRecursion, Contains, PageName, VolumeShape, CachesBy, BlockWords, Seen, IsIno, HasShape, reserved, Kept, numbers, Available, Change, Slot, AtPage, AtTable, Placed, HasSlot, Layout, volume_layout, placed_at, Owns, IsFree, lays_same, lays_self, lies_self, node_fits, SamePlaced, Applied, AllNamed, Bears, NamedNode, IsMapped, NodeFits, InOrder, IsEdited}
-use Rattle.directories.specs.Making.{MayBeMade}
+use Rattle.directories.specs.Plans.{MayBeMade, PlansDir, dir_update}
 use Rattle.directories.proofs.MakingRules.{plan_change, plan_made}
-use Rattle.directories.specs.Plans.{PlansDir, dir_update}
 use Rattle.directories.specs.declared.changes.DirChange.{DirChange}
 use Rattle.std.proofs.Common.{None}
 use Rattle.std.specs.Prelude.{◌&&◌, ◌%◌, cond, map}

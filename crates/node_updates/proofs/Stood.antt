@@ -1,7 +1,6 @@
 -- A plan of a directory as it stands when all of a request is prepared, and the change that it is once the update is made.
 use Rattle.request_ends.proofs.Common.{◌≡◌, ℕ, ◌<◌, true, false, Option, refl, sym, subst, ◌∙◌, inl, inr, PageName, VolumeShape, used_bit, CachesBy, BlockWords, Seen, IsIno, Kept, Held, held_of, Available, Slot, AtPage, AtTable, Placed, HasSlot, placed_at, volume_layout, Applied, Bears, LeavesInUse, NamedNode, Ready, IsMapped, InOrder, IsEdited}
-use Rattle.directories.specs.Making.{MayBeMade}
-use Rattle.directories.specs.Plans.{PlansDir, dir_update}
+use Rattle.directories.specs.Plans.{MayBeMade, PlansDir, dir_update}
 use Rattle.directories.specs.declared.changes.DirChange.{DirChange}
 use Rattle.directories.proofs.MakingOrder.{plan_edits}
 use Rattle.std.proofs.Common.{None}

@@ -11,7 +11,7 @@ use Rattle.rio_requests.specs.declared.answered.Answered.{Answered}
 use Rattle.rio_requests.specs.declared.reply.Reply.{Reply}
 use Rattle.rio_model.specs.declared.state.State.{State}
 use Rattle.rio_model.specs.Placed.{volume_layout}
-use Rattle.node_pages.specs.Forgetting.{Forgets, Uncached}
+use Rattle.node_pages.specs.Staging.{Forgets, Uncached}
 use Rattle.node_updates.specs.Changes.{CanCommit, IsFreed}
 use Rattle.node_updates.specs.Committing.{Commits, Touched}
 use Rattle.request_ends.specs.Ends.{FileEnds}

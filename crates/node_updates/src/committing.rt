@@ -14,7 +14,7 @@ ghost use Rattle.rio_requests.specs.declared.reply.Reply.{Reply};
 ghost use Rattle.rio_model.specs.declared.state.State.{State};
 ghost use Rattle.rio_model.specs.Placed.{volume_layout};
 ghost use Rattle.rio_model.specs.Updates.{Applied};
-ghost use Rattle.node_pages.specs.Forgetting.{Forgets, Uncached};
+ghost use Rattle.node_pages.specs.Staging.{Forgets, Uncached};
 ghost use Rattle.node_pages.specs.Updating.{IsEdited, IsUpdated};
 ghost use Rattle.node_pages.specs.declared.changes.Edit.{Edit as EditOf};
 ghost use Rattle.directories.specs.Plans.{InThreeBlocks};

@@ -7,9 +7,8 @@ use Rattle.rio_base.specs.Rules.{true_false}
 use Rattle.rio_base.specs.Volume.{Settled}
 use Rattle.rio_model.specs.Registry.{gate_of, page_of_entry, shadow_at}
 use Rattle.rio_model.specs.Cover.{entry_of_block, frame_page, reads, stands}
-use Rattle.rio_model.specs.CoverChanges.{place_bare}
+use Rattle.rio_model.specs.CoverChanges.{place_bare, stands_idle}
 use Rattle.rio_model.specs.CoverLookups.{cover_same}
-use Rattle.rio_model.specs.CoverStands.{stands_idle}
 use Rattle.cached_pages.specs.Caches.{CacheSound, cache_kept, cache_seen, has_shadow, is_touched}
 use Rattle.cached_pages.specs.declared.tables.CacheTables.{CacheTables}
 

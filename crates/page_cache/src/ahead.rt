@@ -6,7 +6,7 @@ ghost use Rattle.rio_base.specs.Blocks.{Drops, Halts, Looks};
 ghost use Rattle.rio_base.specs.Disks.{is_pending, raised};
 ghost use Rattle.rio_base.specs.Volume.{Passes};
 ghost use Rattle.rio_model.specs.Registry.{frames_of, is_valid, tag_at};
-ghost use Rattle.write_back.specs.Writing.{SameDisk};
+ghost use Rattle.write_back.specs.Flushing.{SameDisk};
 ghost use Rattle.cached_pages.specs.Caches.{CacheSound, cache_below, cache_health, cache_kept, cache_seen};
 
 use crate::cache::PageCache;

@@ -2,14 +2,13 @@
 
 ghost use Rattle.frame_pool.specs.Pools.{order_of};
 ghost use Rattle.cached_pages.specs.Uses.{AllStay, DirtiesOnly, FailedUse, LeavesOldest, OthersStay, UsedLast, freed_order};
-ghost use Rattle.write_back.specs.Writing.{SameDisk};
+ghost use Rattle.write_back.specs.Flushing.{Flushed, SameDisk};
 ghost use Rattle.cached_pages.specs.Caches.{CacheSound, FewWrites, cache_below, cache_health, cache_kept, cache_seen};
 ghost use Rattle.page_cache.specs.Settled.{cache_settled};
 ghost use Rattle.rio_base.specs.Blocks.{Caches, CanName, Drops, Ends, FaultAt, Halts, IsPlace, IsSpan, Looks, as_word};
 ghost use Rattle.rio_model.specs.Cover.{SameNames, entry_of_block};
 ghost use Rattle.rio_base.specs.Volume.{Begun, CachesStored, Firm, FirmBut, Goes, HasRoom, OldOrNew, OldOrPut, OldOrRun, RunName, Runs, SameBut, SameUpdate, Touches, cleared, put, put_run, stored_name};
 ghost use Rattle.std.specs.Prelude.{IfOk, IsErr, IsErrOf, None, OnOk, Some, false, length, true, ℕ, ◌+◌, ◌<◌, ◌≡◌, ◌≤◌};
-ghost use Rattle.write_back.specs.Flushing.{Flushed};
 
 use crate::cache::PageCache;
 use crate::store_word;

@@ -3,7 +3,7 @@ use Rattle.std.proofs.Common.{◌≡◌, ◌<◌, ◌⊎◌, inl, inr, ℕ, ◌+
 use Rattle.std.specs.Prelude.{Result, Ok, Err, is_some}
 use Rattle.rio_base.specs.Blocks.{Causes}
 use Rattle.rio_base.specs.Bytes.{bytes_of}
-use Rattle.rio_base.specs.Counts.{HasCause, Rose}
+use Rattle.rio_base.specs.Failures.{HasCause, Rose}
 use Rattle.rio_base.specs.Disks.{DiskContents, block_at, blocks_of, is_pending}
 use Rattle.rio_base.specs.Hosts.{Files, with_file}
 use Rattle.rio_base.specs.Image.{HasHeader}

@@ -1,7 +1,7 @@
 -- How work on a pair of files ends: what the files are then, and what was written.
 use Rattle.std.specs.Prelude.{◌≡◌, ◌≢◌, ◌+◌, ◌*◌, ◌≤◌, ◌⊎◌, ℕ, Bool, true, false, List, nat_lt, slice_index, Option, Some, None, is_some}
 use Rattle.rio_base.specs.Bytes.{bytes_of}
-use Rattle.rio_base.specs.Counts.{Rose}
+use Rattle.rio_base.specs.Failures.{Rose}
 use Rattle.rio_base.specs.Disks.{blocks_of}
 use Rattle.rio_base.specs.Hosts.{Files, IsAbsent, IsFile}
 use Rattle.block_disk.specs.HostDisks.{AreFileWords}

@@ -1,7 +1,7 @@
 -- What is so between the parts of work on a pair of files.
 use Rattle.std.specs.Prelude.{◌≡◌, ◌≢◌, ◌<◌, ◌≤◌, ◌^◌, ◌++◌, ◌⊎◌, ℕ, true, false, List, length, slice_index, Option, None, Some, is_some}
 use Rattle.rio_base.specs.Bytes.{bytes_of}
-use Rattle.rio_base.specs.Counts.{Rose}
+use Rattle.rio_base.specs.Failures.{Rose}
 use Rattle.rio_base.specs.Disks.{DiskContents, is_pending}
 use Rattle.rio_base.specs.Hosts.{Files, IsFile, with_file}
 use Rattle.rio_base.specs.Machine.{Contents, Running}

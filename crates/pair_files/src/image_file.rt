@@ -2,7 +2,7 @@
 
 ghost use Rattle.std.specs.Prelude.{◌≡◌, ◌<◌, ◌≤◌, ◌^◌, ℕ, Some, IfOk, IfErr, length, take, slice_index};
 ghost use Rattle.std.specs.String.{string_bytes};
-ghost use Rattle.rio_base.specs.Counts.{HasCause, Rose};
+ghost use Rattle.rio_base.specs.Failures.{HasCause, Rose};
 ghost use Rattle.rio_base.specs.Hosts.{HasSize, IsFile};
 ghost use Rattle.pair_files.specs.Images.{IsImageOf};
 ghost use Rattle.pair_files.specs.Loads.{FailsBytes, IsImageLoaded, IsImageRead, MissesImage};

@@ -4,7 +4,7 @@ ghost use Rattle.std.specs.Prelude.{◌≡◌, ◌<◌, ◌≤◌, ◌+◌, ◌*
 ghost use Rattle.std.specs.String.{string_bytes};
 ghost use Rattle.block_disk.specs.HostDisks.{around_of};
 ghost use Rattle.rio_base.specs.Bytes.{bytes_of};
-ghost use Rattle.rio_base.specs.Counts.{HasCause};
+ghost use Rattle.rio_base.specs.Failures.{HasCause};
 ghost use Rattle.rio_base.specs.Hosts.{Files};
 ghost use Rattle.machine_bench.specs.Benches.{left_by};
 ghost use Rattle.pair_files.specs.Saves.{Leaves, Replaces};

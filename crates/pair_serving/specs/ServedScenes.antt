@@ -1,6 +1,6 @@
 -- Lines served over a pair of files: from which scene to which they lead, and what they leave of the disk.
 use Rattle.std.specs.Prelude.{◌≡◌, ◌≢◌, ℕ, true, List, All}
-use Rattle.rio_base.specs.Counts.{Rose}
+use Rattle.rio_base.specs.Failures.{Rose}
 use Rattle.rio_model.specs.declared.state.State.{State}
 use Rattle.rio_requests.specs.Crash.{crashed}
 use Rattle.rio_requests.specs.declared.request.Request.TheVariants.{Flush}

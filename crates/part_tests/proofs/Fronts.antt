@@ -6,8 +6,7 @@ use Rattle.std.proofs.lemmas.List.{drop-drop, length-take-le, map-append}
 use Rattle.rio_base.specs.Bytes.{bytes_of}
 use Rattle.rio_base.specs.Hosts.{overwritten}
 use Rattle.rio_base.proofs.Bytes.{length-bytes_of}
-use Rattle.held_memory.specs.Moments.{Meanwhile}
-use Rattle.held_memory.specs.WordFiles.{FileBytes, IsWrittenFront, WritesWords}
+use Rattle.held_memory.specs.WordFiles.{FileBytes, IsWrittenFront, Meanwhile, WritesWords}
 use Rattle.held_memory.proofs.Passing.{one_more}
 use Rattle.held_memory.proofs.WordBytes.{bytes_behind, bytes_both, bytes_parts, long_front, over_rest}
 use Rattle.part_tests.specs.PastFiles.{seen}

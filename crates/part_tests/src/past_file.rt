@@ -2,8 +2,7 @@
 
 ghost use Rattle.std.specs.Prelude.{◌≡◌, ◌<◌, ◌≤◌, ◌+◌, ◌^◌, ◌++◌, Some, IfOk, OnOk, OnErr, length, take, drop};
 ghost use Rattle.rio_base.specs.Bytes.{bytes_of};
-ghost use Rattle.held_memory.specs.Moments.{Meanwhile};
-ghost use Rattle.held_memory.specs.WordFiles.{IsWrittenFront};
+ghost use Rattle.held_memory.specs.WordFiles.{IsWrittenFront, Meanwhile};
 ghost use Rattle.part_tests.specs.PastFiles.{seen};
 
 use held_memory::WordFile;

@@ -10,8 +10,7 @@ pub use Rattle.rio_model.specs.FileParts.{resized}
 pub use Rattle.rio_model.specs.Names.{name_cmp, row_entries}
 pub use Rattle.rio_model.specs.Paths.{walk, walk_to_dir}
 pub use Rattle.rio_model.specs.Sizes.{blocks_for, free_count, largest_size, node_blocks}
-pub use Rattle.rio_model.specs.States.{front_of, last_of, least_free, names_in, with_new, with_node}
-pub use Rattle.rio_model.specs.Transactions.{open_inodes}
+pub use Rattle.rio_model.specs.States.{front_of, last_of, least_free, names_in, open_inodes, with_new, with_node}
 pub use Rattle.rio_model.specs.Undo.{region_words}
 pub use Rattle.rio_model.specs.declared.node.Node.TheVariants.{File}
 pub use Rattle.rio_model.specs.declared.state.State.{State}

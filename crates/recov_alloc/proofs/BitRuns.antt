@@ -4,7 +4,7 @@ use Rattle.std.specs.Int.{bit_at, bit_not, w64}
 use Rattle.std.specs.Int.RustNames.{bit_or}
 use Rattle.std.proofs.lemmas.Nat.Bits.{bit_at-lt, bit_at_not, bit_at_or}
 use Rattle.undo_list.specs.Bits.{IsZeros}
-use Rattle.recov_alloc.specs.Bits.{GoesOn}
+use Rattle.recov_alloc.specs.Extents.{GoesOn}
 
 -- the bits that end a block are those of free units and of starts
 pub goes_on : (used starts bit n : ℕ) → used < 2 ^ 64 → IsZeros (bit_or (bit_not w64 used) starts) bit n → GoesOn used starts bit n

@@ -8,8 +8,7 @@ use Rattle.rio_base.specs.Regions.{AreWords}
 use Rattle.rio_model.specs.Heap.{used, starts, IsBlock, OfBlocks, blocks_from, run_length}
 use Rattle.rio_model.proofs.HeapRules.{block_run}
 use Rattle.undo_list.specs.Bits.{IsZeros}
-use Rattle.recov_alloc.specs.Bits.{GoesOn, ReachesInPage}
-use Rattle.recov_alloc.specs.Extents.{Within}
+use Rattle.recov_alloc.specs.Extents.{GoesOn, ReachesInPage, Within}
 use Rattle.recov_alloc.proofs.Fits.{used_bit, starts_bit}
 
 pub within_more : (l : ℕ → ℕ) (t x n : ℕ) (pair : List ℕ) → AreWords l (2 * (x / 64)) 2 pair → Within l t x → GoesOn (slice_index pair 0) (slice_index pair 1) (x % 64) n → Within l t (x + n)

@@ -1,4 +1,3 @@
-pub mod Bits
 pub mod Extents
 pub mod Failures
 pub mod Marks

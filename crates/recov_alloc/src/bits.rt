@@ -1,7 +1,7 @@
 //! Runs of equal bits of one word of the heap map.
 
 ghost use Rattle.std.specs.Prelude.{◌<◌};
-ghost use Rattle.recov_alloc.specs.Bits.{GoesOn};
+ghost use Rattle.recov_alloc.specs.Extents.{GoesOn};
 
 use undo_list::zeros_from;
 

@@ -5,7 +5,7 @@ ghost use Rattle.rio_base.specs.Blocks.{EndsBy};
 ghost use Rattle.rio_base.specs.Regions.{Stays};
 ghost use Rattle.rio_model.specs.Undo.{Gains, IsRegion, Undoes, taken, undo_records, undo_words};
 ghost use Rattle.rio_model.specs.Heap.{touched_pages, units_of};
-ghost use Rattle.undo_list.specs.Headers.{IsHeader};
+ghost use Rattle.undo_list.specs.Records.{IsHeader};
 ghost use Rattle.recov_alloc.specs.Marks.{ChangesMap};
 
 use crate::marking::{mark_block, mark_words};

@@ -6,9 +6,8 @@ ghost use Rattle.rio_base.specs.Blocks.{Ends};
 ghost use Rattle.rio_base.specs.Regions.{Stays};
 ghost use Rattle.rio_model.specs.Undo.{IsRegion, live};
 ghost use Rattle.rio_model.specs.Heap.{IsBlock, OfBlocks, starts, units_of};
-ghost use Rattle.undo_list.specs.Headers.{IsHeader};
-ghost use Rattle.recov_alloc.specs.Bits.{ReachesInPage};
-ghost use Rattle.recov_alloc.specs.Extents.{BlockAt, Within};
+ghost use Rattle.undo_list.specs.Records.{IsHeader};
+ghost use Rattle.recov_alloc.specs.Extents.{BlockAt, ReachesInPage, Within};
 
 use crate::bits::units_on;
 use rio_base::{RegionWords, VolFail};

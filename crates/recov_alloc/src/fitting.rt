@@ -5,7 +5,7 @@ ghost use Rattle.rio_base.specs.Blocks.{Ends};
 ghost use Rattle.rio_base.specs.Regions.{AreWords, Stays};
 ghost use Rattle.rio_model.specs.Undo.{IsRegion, live};
 ghost use Rattle.rio_model.specs.Heap.{Finds, units_of};
-ghost use Rattle.undo_list.specs.Headers.{IsHeader};
+ghost use Rattle.undo_list.specs.Records.{IsHeader};
 ghost use Rattle.recov_alloc.specs.Scans.{AllFull, Before, RunFits, ScanEnds};
 
 use rio_base::{RegionWords, VolFail};

@@ -6,7 +6,7 @@ use Rattle.rio_model.specs.Undo.{Dropped, IsRegion, Undoes, Undone, before, befo
 use Rattle.rio_model.specs.Heap.{OfBlocks}
 use Rattle.test_objects.specs.declared.faulty_region.FaultyRegion.{FaultyRegion}
 use Rattle.test_objects.specs.FaultyRegions.{IsFreshRegion, OnlyCounts, faulty_content}
-use Rattle.region_tests.specs.TestHeaps.{IsHeap}
+use Rattle.region_tests.specs.TestRegions.{IsHeap}
 
 pub still : (n k m : ℕ) (f g : RegionContent) → IsHeap n f → Undoes k f g → IsRegion m g → OfBlocks (live g) (g 2) → IsHeap m g
 still n k m f g h u region present = record {

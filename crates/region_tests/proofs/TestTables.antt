@@ -11,7 +11,7 @@ use Rattle.test_objects.specs.FaultyRegions.{IsFreshRegion, OnlyCounts, faulty_c
 use Rattle.vista_region.specs.Ends.{Fits, OnFault, TxnEnds, says_done}
 use Rattle.vista_region.specs.Marks.{Marks, mark_of, set_mark, txn_in}
 use Rattle.vista_region.specs.Regions.{region_now}
-use Rattle.region_tests.specs.TestTables.{Sound}
+use Rattle.region_tests.specs.TestRegions.{Sound}
 use Rattle.vista_region.specs.declared.failures.TxnFail.{TxnFail}
 use Rattle.vista_region.specs.declared.failures.TxnFail.TheVariants.{NoTransaction, Doomed, NotAligned, OutOfRange, NotCovered, NotBlock, HeapFull, UndoFull, Fault, Stopped}
 use Rattle.vista_region.proofs.Ended.{fits_closed, fits_open, mark_set}

@@ -1,2 +1,1 @@
-pub mod TestHeaps
-pub mod TestTables
+pub mod TestRegions

@@ -4,7 +4,7 @@
 ghost use Rattle.std.specs.Prelude.{◌≡◌, ◌≤◌, IfOk, OnOk};
 ghost use Rattle.rio_model.specs.Undo.{IsRegion};
 ghost use Rattle.test_objects.specs.FaultyRegions.{FaultyReady, faulty_content};
-ghost use Rattle.region_tests.specs.TestHeaps.{IsHeap};
+ghost use Rattle.region_tests.specs.TestRegions.{IsHeap};
 
 use recov_alloc::{HeapFail, allocate, blocks, release};
 use rio_base::{ReadFail, RegionWords, VolFail};

@@ -2,7 +2,7 @@
 
 ghost use Rattle.rio_model.specs.Undo.{IsRegion};
 ghost use Rattle.test_objects.specs.FaultyRegions.{FaultyReady, faulty_content};
-ghost use Rattle.region_tests.specs.TestHeaps.{IsHeap};
+ghost use Rattle.region_tests.specs.TestRegions.{IsHeap};
 
 use crate::heap_calls::Call::{Commit, Give, Take};
 use crate::heap_calls::Said::{Done, Given, Taken};

@@ -2,7 +2,7 @@
 
 ghost use Rattle.std.specs.Prelude.{OnOk};
 ghost use Rattle.rio_model.specs.Undo.{IsRegion};
-ghost use Rattle.region_tests.specs.TestHeaps.{IsHeap};
+ghost use Rattle.region_tests.specs.TestRegions.{IsHeap};
 
 use crate::heap_calls::{Call, Said, make};
 use recov_alloc::HeapFail;

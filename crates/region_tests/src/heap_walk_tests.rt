@@ -1,7 +1,7 @@
 //! Drawn calls on a heap, beside a plain heap.
 
 ghost use Rattle.std.specs.Prelude.{◌<◌, ◌≤◌, OnOk};
-ghost use Rattle.region_tests.specs.TestHeaps.{IsHeap};
+ghost use Rattle.region_tests.specs.TestRegions.{IsHeap};
 
 use crate::heap_calls::{Call, Said, fresh_heap, make};
 use crate::heap_rows::{At, same};

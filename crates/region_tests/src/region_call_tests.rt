@@ -2,7 +2,7 @@
 
 ghost use Rattle.std.specs.Prelude.{◌≤◌};
 ghost use Rattle.test_objects.specs.FaultyRegions.{FaultyReady, faulty_content};
-ghost use Rattle.region_tests.specs.TestTables.{Sound};
+ghost use Rattle.region_tests.specs.TestRegions.{Sound};
 
 use crate::region_calls::Call::{Abort, Alloc, Begin, Commit, Free, Get, List, Put, Range};
 use crate::region_calls::Said::{Busy, Bytes, Done, Failed, Number, Open};

@@ -4,7 +4,7 @@ ghost use Rattle.std.specs.Prelude.{◌≡◌, ◌≤◌, IfOk, IsErrOf, OnOk};
 ghost use Rattle.rio_model.specs.Undo.{IsRegion};
 ghost use Rattle.test_objects.specs.FaultyRegions.{FaultyReady, faulty_content};
 ghost use Rattle.vista_region.specs.Ends.{Fits};
-ghost use Rattle.region_tests.specs.TestTables.{Sound};
+ghost use Rattle.region_tests.specs.TestRegions.{Sound};
 
 use rio_base::{Ino, RegionWords};
 use std::alloc::{AllocError, Global};

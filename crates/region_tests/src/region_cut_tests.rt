@@ -3,7 +3,7 @@
 ghost use Rattle.std.specs.Prelude.{◌≡◌};
 ghost use Rattle.rio_model.specs.Undo.{IsRegion};
 ghost use Rattle.test_objects.specs.FaultyRegions.{FaultyReady, faulty_content};
-ghost use Rattle.region_tests.specs.TestTables.{Sound};
+ghost use Rattle.region_tests.specs.TestRegions.{Sound};
 
 use crate::region_calls::Call::{Abort, Alloc, Begin, Commit, Free, Get, Put, Range};
 use crate::region_calls::Said::{Bytes, Done, Failed, Number};

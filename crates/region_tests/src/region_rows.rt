@@ -2,7 +2,7 @@
 
 ghost use Rattle.std.specs.Prelude.{OnOk};
 ghost use Rattle.rio_model.specs.Undo.{IsRegion};
-ghost use Rattle.region_tests.specs.TestTables.{Sound};
+ghost use Rattle.region_tests.specs.TestRegions.{Sound};
 
 use crate::region_calls::{Call, Said, make, recovered};
 use rio_base::RegionWords;

@@ -22,8 +22,7 @@ pub use Rattle.rio_base.specs.declared.places.VolumeShape.{VolumeShape}
 pub use Rattle.rio_model.proofs.HeldRules.{counts_of}
 pub use Rattle.rio_model.proofs.PlacedRules.{SameLayout, inode_low, lays_same, lays_self, lies_self}
 pub use Rattle.rio_model.proofs.WordRules.{run_same_but}
-pub use Rattle.rio_model.specs.Held.{Held, held, held_of, nothing}
-pub use Rattle.rio_model.specs.HeldRules.{held_ino}
+pub use Rattle.rio_model.specs.Held.{Held, held, held_ino, held_of, nothing}
 pub use Rattle.rio_model.specs.Placed.{AtPage, HasSlot, Layout, Owns, Placed, Slot, placed_at, volume_layout}
 pub use Rattle.rio_model.specs.Sizes.{data_pages}
 pub use Rattle.rio_model.specs.VolumeReads.{ReadsAs, region_in}

@@ -9,8 +9,7 @@ use Rattle.rio_base.specs.Blocks.{BlockWords, Seen}
 use Rattle.rio_base.specs.Layout.{IsIno}
 use Rattle.rio_base.specs.Shapes.{HasShape}
 use Rattle.rio_base.specs.Volume.{Kept}
-use Rattle.rio_model.specs.Held.{Held, held, held_of}
-use Rattle.rio_model.specs.HeldRules.{held_ino}
+use Rattle.rio_model.specs.Held.{Held, held, held_ino, held_of}
 use Rattle.rio_model.specs.Placed.{AtPage, Owns, placed_at, volume_layout}
 use Rattle.rio_model.specs.RegionMoves.{RestHeld, rest_refl, rest_trans}
 use Rattle.rio_model.specs.VolumeReady.{AllNamed, Ready}

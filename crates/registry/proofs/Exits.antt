@@ -8,7 +8,7 @@ use Rattle.rio_base.specs.declared.places.Block.{Block}
 use Rattle.rio_base.specs.declared.failures.VolFail.{VolFail}
 use Rattle.rio_base.specs.declared.failures.VolFail.TheVariants.{Fault, Stopped}
 use Rattle.rio_base.specs.Blocks.{Caches, Ends, Health, Looks}
-use Rattle.rio_base.specs.Counts.{Rose}
+use Rattle.rio_base.specs.Failures.{Rose}
 use Rattle.rio_base.specs.Disks.{block_at}
 use Rattle.rio_base.specs.Machine.{Contents, Lasts, Running}
 use Rattle.rio_base.specs.Rules.{true_false}

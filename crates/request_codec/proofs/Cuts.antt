@@ -9,10 +9,9 @@ use Rattle.std.specs.Fmt.{decimal}
 use Rattle.std.specs.Str.Parse.{AllDigits}
 use Rattle.memchr.specs.Find.{Nowhere, NoneBefore, Passes, is_byte}
 use Rattle.rio_base.proofs.DecimalDigits.{one_number}
-use Rattle.rio_base.specs.Pieces.{Lacks}
+use Rattle.rio_base.specs.Bytes.{IsNumber, Lacks}
 use Rattle.rio_model.specs.Paths.{IsName, IsNameByte, IsPath}
 use Rattle.request_codec.specs.Form.{Path, Number, Then}
-use Rattle.rio_base.specs.Numbers.{IsNumber}
 use Rattle.request_codec.specs.Fronts.{IsCut, HasPath, HasNumber, HasPathNumber}
 
 not_equal : (b c : ℕ) → b ≢ c → (b == c) ≡ false

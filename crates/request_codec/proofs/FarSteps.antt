@@ -8,7 +8,7 @@ use Rattle.std.proofs.lemmas.List.{take_all}
 use Rattle.std.proofs.lemmas.Simd.{get_or-chunk, length-chunk, none_from_empty_mask, trailing_mask_l, run_in_chunk_fails, run_in_chunk_stops, run_in_chunk_le}
 use lib.Lanes.{chunk, mask_l}
 use Rattle.memchr.specs.Find.{IsFirst, NoneBefore, Nowhere, Passes, is_byte}
-use Rattle.request_codec.specs.Leasts.{AreLeast}
+use Rattle.request_codec.specs.Fronts.{AreLeast}
 use Rattle.request_codec.proofs.NearEnds.{none_set, not_both}
 
 -- ---- one step

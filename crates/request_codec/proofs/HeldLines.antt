@@ -4,8 +4,7 @@ use Rattle.std.specs.Prelude.{Option}
 use Rattle.std.proofs.lemmas.List.{length-append, length-take-le}
 use Rattle.std.proofs.Math.Seq.{drop-append_seam}
 use Rattle.memchr.specs.Find.{NoneBefore, Passes, is_byte}
-use Rattle.request_codec.specs.Lines.{HoldsLine, TakesLine, ended}
-use Rattle.request_codec.specs.Reading.{Reading}
+use Rattle.request_codec.specs.Lines.{HoldsLine, Reading, TakesLine, ended}
 use Rattle.request_codec.proofs.LineEnds.{cut_at_end, end_found}
 use Rattle.request_codec.proofs.Passing.{passes_held}
 

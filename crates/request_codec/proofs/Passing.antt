@@ -2,7 +2,7 @@
 use Rattle.std.proofs.Common.{◌≡◌, ◌≢◌, ℕ, ◌+◌, ◌≤◌, ◌^◌, Bool, true, false, List, [], ◌∷◌, ◌++◌, length, drop, refl, sym, ap, subst, ◌∙◌, inl, inr, arith, length-append, append_assoc, add-zero}
 use Rattle.std.specs.Prelude.{Option, Some, None, Err, IsErrOf}
 use Rattle.std.proofs.lemmas.List.{append-nil}
-use Rattle.rio_base.specs.Pieces.{Lacks}
+use Rattle.rio_base.specs.Bytes.{Lacks}
 use Rattle.rio_base.specs.Streams.{prepended, IsSpent}
 use Rattle.request_codec.specs.Gathered.{Keeps, IsKept, IsKeptLast, Gathers}
 use Rattle.request_codec.specs.declared.gathered.Gathered.{Gathered}
@@ -10,8 +10,7 @@ use Rattle.request_codec.specs.declared.lines.NextLine.{NextLine}
 use Rattle.request_codec.specs.declared.lines.NextLine.TheVariants.{Line, TooLong, End}
 use Rattle.request_codec.specs.declared.lines.LineFail.{LineFail}
 use Rattle.request_codec.specs.declared.lines.LineFail.TheVariants.{Fault, Limit, Memory}
-use Rattle.request_codec.specs.Reading.{Reading}
-use Rattle.request_codec.specs.Lines.{HasNoEnd, ended, HasEnded, Passes, TakesLine, Gives, Fails, Refills, RunsOver}
+use Rattle.request_codec.specs.Lines.{Reading, HasNoEnd, ended, HasEnded, Passes, TakesLine, Gives, Fails, Refills, RunsOver}
 
 prepended-nil : (told : Option (List ℕ)) → told ≡ prepended [] told
 prepended-nil None = refl

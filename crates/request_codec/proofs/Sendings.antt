@@ -3,7 +3,7 @@ use Rattle.std.proofs.Common.{◌≡◌, ℕ, ◌+◌, ◌-◌, ◌≤◌, ◌<�
 use Rattle.std.specs.Prelude.{OnOk, OnErr, IsErr}
 use Rattle.std.proofs.lemmas.List.{append_assoc, append-nil, length-take-le, take-append-drop, drop-drop, take_rest, take_at}
 use Rattle.std.proofs.lemmas.Result.{on_ok_weaker, on_err_weaker}
-use Rattle.rio_base.specs.Counts.{HasCause, Rose}
+use Rattle.rio_base.specs.Failures.{HasCause, Rose}
 use Rattle.rio_base.specs.Streams.{appended}
 use Rattle.request_codec.specs.Sending.{Took, Sent, IsCutOff, Sends, Puts}
 

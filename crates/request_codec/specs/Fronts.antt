@@ -1,8 +1,7 @@
--- What a text begins with, up to the first space.
-use Rattle.std.specs.Prelude.{◌≡◌, ◌<◌, ◌≤◌, ◌++◌, ◌∷◌, ℕ, List, length, slice_index}
-use Rattle.rio_base.specs.Pieces.{Lacks}
+-- What a text begins with, up to the first space, and the least of many bytes.
+use Rattle.std.specs.Prelude.{◌≡◌, ◌<◌, ◌≤◌, ◌++◌, ◌∷◌, ℕ, ◌+◌, List, length, slice_index}
+use Rattle.rio_base.specs.Bytes.{IsNumber, Lacks}
 use Rattle.rio_model.specs.Paths.{AreNames, IsName, IsNameByte, IsPath}
-use Rattle.rio_base.specs.Numbers.{IsNumber}
 
 -- a first part, the first space and the rest
 abbrev pub IsCut : List ℕ → List ℕ → List ℕ → Type 0
@@ -42,3 +41,10 @@ pub record IsNameCount (text : List ℕ) (count : ℕ) : Type 0 where
   pub names : List (List ℕ)
   pub are : AreNames text names
   pub all : (others : List (List ℕ)) → AreNames text others → length others ≡ count
+
+-- ---- the least of many bytes, by which a byte that none of them is goes past
+
+-- each of the n bytes from place i on is at least as large as one of these 32
+pub record AreLeast (least bytes : List ℕ) (i n : ℕ) : Type 0 where
+  pub lanes : length least ≡ 32
+  pub each : (k : ℕ) → i ≤ k → k < i + n → (j : ℕ) × (j < 32) × (slice_index least j ≤ slice_index bytes k)

@@ -2,9 +2,7 @@ pub mod Digits
 pub mod Form
 pub mod Fronts
 pub mod Gathered
-pub mod Leasts
 pub mod Lines
-pub mod Reading
 pub mod Sending
 pub mod Text
 pub mod Words

@@ -1,13 +1,20 @@
 -- The lines of an input, and how a reader takes them one by one.
-use Rattle.std.specs.Prelude.{◌≡◌, ◌≢◌, ◌<◌, ◌≤◌, ◌+◌, ℕ, List, [], ◌∷◌, ◌++◌, ◌^◌, Bool, true, false, length, Option, ◌⊎◌}
+use Rattle.std.specs.Prelude.{ℕ, ◌≡◌, ◌≢◌, ◌<◌, ◌≤◌, ◌+◌, ◌∷◌, ◌++◌, ◌^◌, ◌⊎◌, Bool, List, [], true, false, length, Option}
 use Rattle.std.specs.Bool.{MatchBool}
-use Rattle.rio_base.specs.Pieces.{pieces, Lacks}
+use Rattle.rio_base.specs.Bytes.{pieces, Lacks}
 use Rattle.rio_base.specs.Streams.{prepended, IsSpent}
 use Rattle.request_codec.specs.declared.lines.NextLine.{NextLine}
 use Rattle.request_codec.specs.declared.lines.NextLine.TheVariants.{Line, TooLong, End}
 use Rattle.request_codec.specs.declared.lines.LineFail.{LineFail}
 use Rattle.request_codec.specs.declared.lines.LineFail.TheVariants.{Fault, Limit, Memory}
-use Rattle.request_codec.specs.Reading.{Reading}
+
+-- the bytes that it holds, how many it took in all, and whether the source told it that the input has ended
+pub record Reading : Type 0 where
+  pub held : List ℕ
+  pub taken : ℕ
+  pub ended : Bool
+
+-- ---- the lines of an input
 
 -- the pieces between bytes 0x0a, the last one only where it isn't empty
 abbrev pub lines : List ℕ → List (List ℕ)

@@ -1,6 +1,6 @@
 -- A text on its way to a sink: part of it may be written already while the rest is still held.
 use Rattle.std.specs.Prelude.{◌≡◌, ◌≤◌, ℕ, List, ◌++◌, Option, Result, IfOk, OnOk, OnErr, length, take}
-use Rattle.rio_base.specs.Counts.{Rose}
+use Rattle.rio_base.specs.Failures.{Rose}
 use Rattle.rio_base.specs.Streams.{appended}
 
 -- The sink took the front of these bytes, and this rest of them is left.

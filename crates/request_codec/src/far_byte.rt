@@ -2,7 +2,7 @@
 
 ghost use Rattle.std.specs.Prelude.{◌+◌, ◌<◌, ◌≤◌, ℕ, length, slice_index, IsTrue, MatchOption};
 ghost use Rattle.memchr.specs.Find.{IsFirstByte, NoneBefore, Nowhere, Passes, is_byte};
-ghost use Rattle.request_codec.specs.Leasts.{AreLeast};
+ghost use Rattle.request_codec.specs.Fronts.{AreLeast};
 
 use crate::byte_step::{WIDE, first_of};
 use crate::lanes::lesser;

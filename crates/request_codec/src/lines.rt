@@ -2,7 +2,7 @@
 
 ghost use Rattle.std.specs.Prelude.{◌≡◌, ◌≤◌, ◌^◌, ℕ, true, false, [], List, Option, Ok, IfOk, IfErr, IfSome, OnErr, OnOk, IsErrOf, length};
 ghost use Rattle.request_codec.specs.declared.lines.NextLine.TheVariants.{End};
-ghost use Rattle.rio_base.specs.Counts.{Rose};
+ghost use Rattle.rio_base.specs.Failures.{Rose};
 ghost use Rattle.rio_base.specs.Streams.{IsSpent};
 ghost use Rattle.request_codec.specs.Lines.{Fails, Gives, HasEnded, HoldsLine, Refills, TakesLine};
 
@@ -64,7 +64,7 @@ pub struct LineReader {
 }
 
 impl Model for LineReader {
-    ghost use Rattle.request_codec.specs.Reading.{Reading};
+    ghost use Rattle.request_codec.specs.Lines.{Reading};
     ghost use Rattle.std.specs.Prelude.{◌≡◌, true, []};
 
     ghost Value = { Reading };

@@ -1,10 +1,9 @@
 //! What stands behind the first word of a line: parts with a space between them.
 
 ghost use Rattle.std.specs.Prelude.{◌≡◌, ◌≤◌, ◌++◌, ◌∷◌, ℕ, List, length, IfOk, MatchOption};
-ghost use Rattle.rio_base.specs.Pieces.{Lacks};
+ghost use Rattle.rio_base.specs.Bytes.{IsNumber, Lacks};
 ghost use Rattle.rio_model.specs.Paths.{IsPath};
 ghost use Rattle.request_codec.specs.Form.{IsHexOf, Data, PathNumber, PathNumbers, PathData, Paths, NumberValue, NumbersValue};
-ghost use Rattle.rio_base.specs.Numbers.{IsNumber};
 ghost use Rattle.request_codec.specs.Fronts.{IsCut, HasPath, HasNumber, HasPathNumber};
 
 use crate::first_byte::first_byte;

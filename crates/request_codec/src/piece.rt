@@ -1,7 +1,7 @@
 //! The piece of the input that a reader holds.
 
 ghost use Rattle.std.specs.Prelude.{◌≡◌, ◌<◌, ◌≤◌, ℕ, [], Ok, Result, IfOk, OnErr, length, take, drop};
-ghost use Rattle.rio_base.specs.Counts.{HasCause};
+ghost use Rattle.rio_base.specs.Failures.{HasCause};
 ghost use Rattle.rio_base.specs.Streams.{prepended, IsSpent};
 
 use rio_base::{Failed, Source};

@@ -2,7 +2,7 @@
 
 ghost use Rattle.std.specs.Prelude.{◌≡◌, ◌+◌, ◌<◌, ◌≤◌, ◌++◌, ◌∷◌, [], ℕ, true, OnOk, OnErr, codes, decimal, flat_map, length, slice_index_or, take};
 ghost use Rattle.hex.specs.Hex.{encode_lower};
-ghost use Rattle.rio_base.specs.Counts.{HasCause};
+ghost use Rattle.rio_base.specs.Failures.{HasCause};
 ghost use Rattle.rio_base.specs.Streams.{appended};
 ghost use Rattle.request_codec.specs.Sending.{Puts, Sends};
 ghost use Rattle.rio_requests.specs.declared.reply.Reply.TheVariants.{Stat};

@@ -18,7 +18,7 @@ pub use Rattle.node_pages.proofs.Listed.{as_many, number_at}
 pub use Rattle.node_pages.proofs.LookingUpRules.{can_look_up}
 pub use Rattle.node_pages.proofs.OrderRules.{firm_on, leaves_looked, leaves_refl, leaves_trans, ready_left, ready_order}
 pub use Rattle.node_pages.specs.Changes.{wanted_blocks}
-pub use Rattle.node_pages.specs.Forgetting.{Forgets}
+pub use Rattle.node_pages.specs.Staging.{Forgets}
 pub use Rattle.node_pages.specs.LookingUp.{node_blocks}
 pub use Rattle.rio_model.specs.VolumeReady.{AllNamed, Bears, InOrder, LeavesInUse, NamedNode, Ready}
 pub use Rattle.node_pages.specs.Updating.{IsEdited}
@@ -33,7 +33,7 @@ pub use Rattle.rio_base.specs.Bitmap.{free_blocks, used_bit}
 pub use Rattle.rio_base.specs.BlockSets.{CachesBy, FirmOutside, SameOutside}
 pub use Rattle.rio_base.specs.Blocks.{BlockWords, Caches, Drops, EndsBy, Health, Looks, Seen}
 pub use Rattle.rio_base.specs.Layout.{IsIno, inode_block, inode_kind}
-pub use Rattle.rio_base.specs.Pieces.{pieces}
+pub use Rattle.rio_base.specs.Bytes.{pieces}
 pub use Rattle.rio_base.specs.Rules.{firm_trans, goes_refl, goes_trans, true_false, ◌then◌}
 pub use Rattle.rio_base.specs.Shapes.{HasShape, reserved}
 pub use Rattle.rio_base.specs.Volume.{Below, Firm, Goes, Kept, Passes, Settled}
@@ -50,13 +50,11 @@ pub use Rattle.rio_model.proofs.StateSteps.{get_here, get_there}
 pub use Rattle.rio_model.proofs.VolumeReadRules.{held_of_agree, reads_agree, reads_dir, reads_file, reads_none, reads_region}
 pub use Rattle.rio_model.proofs.WordRules.{differs}
 pub use Rattle.rio_model.specs.Heap.{IsSoundRegion}
-pub use Rattle.rio_model.specs.Held.{HasEntry, Held, entry_ino, entry_name, held, held_bytes, held_of, nothing}
-pub use Rattle.rio_model.specs.HeldRules.{held_ino}
+pub use Rattle.rio_model.specs.Held.{HasEntry, Held, entry_ino, entry_name, held, held_bytes, held_ino, held_of, nothing}
 pub use Rattle.rio_model.specs.Names.{NameKey, Names, name_cmp}
 pub use Rattle.rio_model.specs.NodeChanges.{Available, Change}
 pub use Rattle.rio_model.specs.Paths.{IsName, IsPath, from_found, is_dir, names_of, slashed, walk, walk_to_dir}
-pub use Rattle.rio_model.specs.Placed.{Agrees, AtPage, AtTable, HasSlot, IsFree, Layout, Owned, Owns, Placed, Slot, placed_at, volume_layout}
-pub use Rattle.rio_model.specs.PlacedRules.{SamePlaced}
+pub use Rattle.rio_model.specs.Placed.{Agrees, AtPage, AtTable, HasSlot, IsFree, Layout, Owned, Owns, Placed, SamePlaced, Slot, placed_at, volume_layout}
 pub use Rattle.rio_model.specs.Sizes.{blocks_for, free_count, largest_size, pages}
 pub use Rattle.rio_model.specs.States.{front_of, last_of, names_in, with_new, with_node}
 pub use Rattle.rio_model.specs.Updates.{Applied}

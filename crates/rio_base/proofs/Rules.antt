@@ -3,7 +3,7 @@ use Rattle.std.specs.Prelude.{◌≡◌, ℕ, ◌+◌, ◌≤◌, Result, Ok, Er
 use Rattle.std.proofs.Common.{le_trans, ◌∙◌, inl, inr, arith}
 use Rattle.rio_base.specs.declared.failures.VolFail.{VolFail}
 use Rattle.rio_base.specs.declared.failures.VolFail.TheVariants.{Fault, Stopped}
-use Rattle.rio_base.specs.Counts.{Rose, RoseBy}
+use Rattle.rio_base.specs.Failures.{Rose, RoseBy}
 use Rattle.rio_base.specs.Blocks.{Seen, Health, Looks, Drops, Ends, EndsBy}
 
 -- ---- what is only read

@@ -2,7 +2,7 @@
 use Rattle.std.specs.Prelude.{◌≡◌, ℕ, ◌+◌, ◌-◌, ◌*◌, ◌/◌, ◌^◌, min, max, Bool, true, false, List, [], length, map, take, drop, slice_index_or, slice_set, replicate, Option, Some, Result, MatchResult, ◌≤◌}
 use Rattle.std.specs.List.{range_with_len}
 use Rattle.rio_base.specs.Blocks.{Around}
-use Rattle.rio_base.specs.Counts.{Rose}
+use Rattle.rio_base.specs.Failures.{Rose}
 
 -- how many calls of a disk failed, up to the largest u64, and how far that count can rise, where it is told
 pub record FaultCount : Type 0 where

@@ -2,17 +2,13 @@ pub mod Bitmap
 pub mod BlockSets
 pub mod Blocks
 pub mod Bytes
-pub mod Counts
 pub mod Disks
-pub mod FailingCalls
 pub mod Failures
 pub mod Hosts
 pub mod Image
 pub mod Layout
 pub mod Machine
 pub mod Memory
-pub mod Numbers
-pub mod Pieces
 pub mod Regions
 pub mod Rules
 pub mod Shapes

@@ -2,7 +2,7 @@
 
 ghost use Rattle.std.specs.Prelude.{◌≡◌, ◌<◌, ◌≤◌, ◌⊎◌, ℕ, List, Option, Result, Ok, IfOk, OnOk, OnErr, length, take};
 ghost use Rattle.std.specs.String.{string_bytes};
-ghost use Rattle.rio_base.specs.Counts.{HasCause, Rose};
+ghost use Rattle.rio_base.specs.Failures.{HasCause, Rose};
 ghost use Rattle.rio_base.specs.Hosts.{EndsBy, Files, HasBytes, HasSize, Overwrites, TearsWithin, with_file};
 
 use crate::failures::Failed;

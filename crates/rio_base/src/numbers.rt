@@ -1,7 +1,7 @@
 //! Numbers in decimal digits.
 
 ghost use Rattle.std.specs.Prelude.{◌≡◌, ◌↔◌, ◌<◌, ℕ, length, slice_index, IsTrue, MatchOption};
-ghost use Rattle.rio_base.specs.Numbers.{IsNumber};
+ghost use Rattle.rio_base.specs.Bytes.{IsNumber};
 
 /// The most digits of a number.
 const NUMBER_DIGITS: usize = 18;

@@ -1,7 +1,7 @@
 //! Where output goes.
 
 ghost use Rattle.std.specs.Prelude.{◌≡◌, ◌<◌, ◌≤◌, ℕ, List, Option, Result, Ok, IfOk, OnErr, length, take};
-ghost use Rattle.rio_base.specs.Counts.{HasCause, Rose};
+ghost use Rattle.rio_base.specs.Failures.{HasCause, Rose};
 ghost use Rattle.rio_base.specs.Streams.{appended};
 
 use crate::failures::Failed;

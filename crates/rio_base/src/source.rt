@@ -1,7 +1,7 @@
 //! Where input comes from.
 
 ghost use Rattle.std.specs.Prelude.{◌≡◌, ◌<◌, ◌≤◌, ℕ, List, Option, Result, Ok, IfOk, OnOk, OnErr, length, take};
-ghost use Rattle.rio_base.specs.Counts.{HasCause};
+ghost use Rattle.rio_base.specs.Failures.{HasCause};
 ghost use Rattle.rio_base.specs.Streams.{prepended, IsSpent};
 
 use crate::failures::Failed;

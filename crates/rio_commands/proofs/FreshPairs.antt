@@ -23,7 +23,7 @@ use Rattle.image_codec.specs.Image.{IsImage, fresh_image_word, fresh_image_words
 use Rattle.image_codec.specs.Volume.{bitmap_word, block_words, fresh_shape, fresh_volume_word, fresh_volume_words, superblock_word}
 use Rattle.image_codec.proofs.Fresh.{marked_in, superblock_in}
 use Rattle.rio_model.specs.Cover.{home_word}
-use Rattle.rio_model.specs.FreshVolume.{IsFreshVolume}
+use Rattle.rio_model.specs.Fresh.{IsFreshVolume}
 use Rattle.rio_model.specs.Registry.{HasLayout, KeepsRegistry, frames_of, gate_of, is_valid, tag_at}
 use Rattle.rio_model.specs.Standing.{Restorable}
 use Rattle.rio_model.specs.VolumeRules.{bitmap_bits}

@@ -2,7 +2,7 @@
 use Rattle.std.proofs.Common.{◌≡◌, ◌<◌, ◌==◌, ℕ, suc, Bool, true, false, cond, List, [], ◌∷◌, ◌++◌, length, refl, sym, ap, subst, ◌∙◌, inl, inr, arith, length-append, append_assoc}
 use Rattle.std.specs.Prelude.{All, Option, Some, None, ◌⊎◌, slice_index_or}
 use Rattle.std.proofs.lemmas.List.{append-nil, get_or_append_left}
-use Rattle.rio_base.specs.Pieces.{onto, pieces}
+use Rattle.rio_base.specs.Bytes.{onto, pieces}
 use Rattle.rio_base.specs.Streams.{IsSpent, prepended}
 use Rattle.request_codec.specs.Lines.{HasNoEnd, ended, lines}
 use Rattle.line_loop.specs.ServeRun.{AreFirst, ended_lines}

@@ -1,7 +1,7 @@
 -- How a look at a registry ends.
 use Rattle.std.proofs.Common.{◌≡◌, ◌≢◌, ℕ, List, [], Option, Err, inl, inr, arith}
 use Rattle.std.specs.Prelude.{◌⊎◌}
-use Rattle.rio_base.specs.Counts.{Rose}
+use Rattle.rio_base.specs.Failures.{Rose}
 use Rattle.rio_base.specs.Hosts.{Files, IsAbsent}
 use Rattle.request_codec.specs.Sending.{Sends}
 use Rattle.request_codec.proofs.Sendings.{sends_cut}

@@ -1,7 +1,7 @@
 -- What a run of `serve` comes to, by how the work on its files ended, and what its status says.
 use Rattle.std.proofs.Common.{◌≡◌, ◌≢◌, ◌<◌, ◌≤◌, ◌^◌, ◌+◌, ℕ, true, List, length, refl, sym, ap, subst, ◌∙◌, inl, inr, arith, length-append}
 use Rattle.std.specs.Prelude.{Option, Some, None, ◌⊎◌, is_some}
-use Rattle.rio_base.specs.Counts.{Rose}
+use Rattle.rio_base.specs.Failures.{Rose}
 use Rattle.rio_base.specs.Hosts.{Files, IsAbsent}
 use Rattle.rio_base.specs.Streams.{IsSpent, prepended}
 use Rattle.rio_base.proofs.Rules.{rose_stays}

@@ -2,7 +2,7 @@
 use Rattle.std.proofs.Common.{◌≡◌, ◌≢◌, ◌≤◌, ℕ, suc, zero, true, List, refl, sym, ap, subst, ◌∙◌, inl, inr, arith}
 use Rattle.std.specs.Prelude.{Option, Some, None, ◌⊎◌}
 use Rattle.rio_base.specs.Bytes.{bytes_of}
-use Rattle.rio_base.specs.Counts.{Rose, RoseBy}
+use Rattle.rio_base.specs.Failures.{Rose, RoseBy}
 use Rattle.rio_base.specs.Hosts.{Files}
 use Rattle.machine_bench.specs.Benches.{Leaving}
 use Rattle.rio_model.specs.declared.state.State.{State}

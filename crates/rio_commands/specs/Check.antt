@@ -1,6 +1,6 @@
 -- What a run of `check` finds.
 use Rattle.std.specs.Prelude.{◌≡◌, ℕ, false, List, Option, None}
-use Rattle.rio_base.specs.Counts.{Rose}
+use Rattle.rio_base.specs.Failures.{Rose}
 use Rattle.rio_base.specs.Hosts.{Files, IsAbsent, IsFile}
 use Rattle.rio_base.specs.Disks.{DiskContents}
 use Rattle.rio_base.specs.Machine.{Contents, Running}

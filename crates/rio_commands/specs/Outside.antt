@@ -1,6 +1,6 @@
 -- What there is around a run, and what its bench tells.
 use Rattle.std.specs.Prelude.{ℕ, Bool, List, Option}
-use Rattle.rio_base.specs.Counts.{Rose}
+use Rattle.rio_base.specs.Failures.{Rose}
 use Rattle.rio_base.specs.Hosts.{Files}
 use Rattle.machine_bench.specs.Benches.{Began, Leaving}
 

@@ -1,7 +1,7 @@
 -- What a run of `serve` leaves of a pair of files, and what its status tells.
 use Rattle.std.specs.Prelude.{◌≡◌, ◌≢◌, ◌≤◌, ◌<◌, ◌^◌, ◌⊎◌, ℕ, true, List, length, Option, Some, None}
 use Rattle.rio_base.specs.Bytes.{bytes_of}
-use Rattle.rio_base.specs.Counts.{Rose, RoseBy}
+use Rattle.rio_base.specs.Failures.{Rose, RoseBy}
 use Rattle.rio_base.specs.Hosts.{Files, IsAbsent}
 use Rattle.machine_bench.specs.Benches.{Leaving}
 use Rattle.rio_model.specs.declared.state.State.{State}

@@ -2,7 +2,7 @@
 
 ghost use Rattle.std.specs.Prelude.{◌≡◌, ◌≤◌, ℕ, List, Option, None, IfOk, IfErr, false, length};
 ghost use Rattle.std.specs.String.{string_bytes};
-ghost use Rattle.rio_base.specs.Counts.{Rose};
+ghost use Rattle.rio_base.specs.Failures.{Rose};
 ghost use Rattle.rio_base.specs.Disks.{is_pending};
 ghost use Rattle.rio_base.specs.Hosts.{Files};
 ghost use Rattle.rio_base.specs.Image.{HasHeader};

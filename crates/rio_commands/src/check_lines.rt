@@ -2,7 +2,7 @@
 
 ghost use Rattle.std.specs.Prelude.{◌≡◌, ◌≤◌, [], length, take};
 ghost use Rattle.std.specs.String.{string_bytes};
-ghost use Rattle.rio_base.specs.Counts.{Rose};
+ghost use Rattle.rio_base.specs.Failures.{Rose};
 ghost use Rattle.request_codec.specs.Sending.{Puts, Sends};
 ghost use Rattle.rio_commands.specs.Command.{WritesLine};
 ghost use Rattle.rio_commands.specs.CheckLines.{census_line, check_line, check_status, free_part, name_of, node_part, volume_rule_line};

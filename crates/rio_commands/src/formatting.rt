@@ -4,7 +4,7 @@ ghost use Rattle.std.specs.Prelude.{◌≡◌, ◌≤◌, ℕ, IfOk, String as S
 ghost use Rattle.std.specs.String.{string_bytes};
 ghost use Rattle.rio_base.specs.Image.{AreImageSizes, image_pages};
 ghost use Rattle.rio_base.specs.Shapes.{IsServed};
-ghost use Rattle.rio_base.specs.Counts.{Rose};
+ghost use Rattle.rio_base.specs.Failures.{Rose};
 ghost use Rattle.rio_commands.specs.Command.{host_fault_line};
 ghost use Rattle.rio_commands.specs.Format.{Formats, IsPrepared, files_after, format_status, format_line, image_bytes, disk_bytes};
 

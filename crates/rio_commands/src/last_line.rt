@@ -1,7 +1,7 @@
 //! The line that ends a run.
 
 ghost use Rattle.std.specs.Prelude.{◌≡◌, ◌≤◌};
-ghost use Rattle.rio_base.specs.Counts.{Rose};
+ghost use Rattle.rio_base.specs.Failures.{Rose};
 ghost use Rattle.rio_commands.specs.Command.{WritesLine};
 
 use request_codec::write_text;

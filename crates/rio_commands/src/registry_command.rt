@@ -2,7 +2,7 @@
 
 ghost use Rattle.std.specs.Prelude.{◌≡◌, ◌≤◌, IfOk, IfErr};
 ghost use Rattle.std.specs.String.{string_bytes};
-ghost use Rattle.rio_base.specs.Counts.{Rose};
+ghost use Rattle.rio_base.specs.Failures.{Rose};
 ghost use Rattle.rio_model.specs.Registry.{HasLayout};
 ghost use Rattle.pair_files.specs.Images.{HoldsImage};
 ghost use Rattle.rio_commands.specs.Registry.{Lists, Misses, Writes, unlisted_end};

@@ -2,7 +2,7 @@
 
 ghost use Rattle.std.specs.Prelude.{◌≡◌, ◌≤◌, ◌++◌, [], codes, length, take, if◌then◌else◌};
 ghost use Rattle.std.specs.String.{string_bytes};
-ghost use Rattle.rio_base.specs.Counts.{Rose};
+ghost use Rattle.rio_base.specs.Failures.{Rose};
 ghost use Rattle.request_codec.specs.Sending.{Puts, Sends};
 ghost use Rattle.rio_commands.specs.Command.{WritesLine};
 ghost use Rattle.rio_commands.specs.RegistryLines.{block_part, field, file_part, image_rule_line, registry_line, registry_status, row_line};

@@ -2,7 +2,7 @@
 
 ghost use Rattle.std.specs.Prelude.{◌≡◌, ◌≤◌, [], None};
 ghost use Rattle.std.specs.String.{string_bytes};
-ghost use Rattle.rio_base.specs.Counts.{Rose};
+ghost use Rattle.rio_base.specs.Failures.{Rose};
 ghost use Rattle.request_codec.specs.Sending.{Sends};
 ghost use Rattle.rio_commands.specs.Command.{WritesLine};
 ghost use Rattle.line_loop.specs.LinesEnds.{loop_end};

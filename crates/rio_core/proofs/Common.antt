@@ -4,7 +4,7 @@ pub use Rattle.std.proofs.lemmas.Bool.{cases_eq}
 pub use Rattle.std.specs.FinMap.{get}
 pub use Rattle.std.specs.Prelude.{IfOk, IsErr, IsErrOf}
 pub use Rattle.request_ends.specs.Ends.{Stands}
-pub use Rattle.node_making.specs.NewRegions.{FindsRegion}
+pub use Rattle.node_making.specs.NewNodes.{FindsRegion}
 pub use Rattle.region_view.specs.Views.{OnRegion}
 pub use Rattle.rio_model.specs.RegionMoves.{RestHeld}
 pub use Rattle.request_ends.specs.declared.failures.FileFail.{FileFail}

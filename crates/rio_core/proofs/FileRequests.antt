@@ -2,11 +2,11 @@
 use Rattle.rio_core.proofs.Common.{◌≡◌, ℕ, List, refl, sym, ap, subst, ◌∙◌, inl, inr, VolumeShape, Seen, Kept, State, volume_layout, LeavesInUse, Answered, Reply, Request, answer_of, crashed, FaultStep, Stands, FileFail, Refused, Fault, Memory, Marks}
 use Rattle.std.specs.Prelude.{Result, Ok, Err, Option, Some}
 use Rattle.rio_base.specs.declared.failures.Stopped.{Stopped as MachineStopped}
-use Rattle.rio_model.specs.Transactions.{open_inodes}
+use Rattle.rio_model.specs.States.{open_inodes}
 use Rattle.rio_requests.specs.declared.reply.Reply.TheVariants.{Err as RefusedBy}
 use Rattle.rio_requests.specs.declared.request.Request.TheVariants.{Mkdir, Create, Region as MakeRegion, Write, Read, Truncate, Unlink, Rmdir, Rename, Stat as StatOf, List as ListOf}
 use Rattle.rio_requests.specs.Crash.{OpenRegions}
-use Rattle.rio_requests.specs.CrashFiles.{OnFiles}
+use Rattle.rio_requests.specs.Requests.{OnFiles}
 use Rattle.rio_requests.proofs.CrashFiles.{answer_beside, fault_crashed, files_crashed, files_leave, part_crashed}
 use Rattle.rio_requests.proofs.CrashRules.{LeavesOpen, leaves_itself}
 use Rattle.rio_requests.specs.Parts.{LeadStep, PartOf}
@@ -16,7 +16,7 @@ use Rattle.request_ends.proofs.EndRules.{left_same}
 use Rattle.request_ends.specs.declared.failures.FileFail.TheVariants.{Stopped}
 use Rattle.rio_core.specs.Replying.{Replies}
 use Rattle.rio_core.specs.Serving.{RequestEnds, Serves}
-use Rattle.rio_core.specs.Groups.{ByName}
+use Rattle.rio_core.specs.Lines.{ByName}
 use Rattle.rio_core.proofs.FileSteps.{files_held}
 use Rattle.rio_core.proofs.RegionEnds.{held_serves, serves_held}
 

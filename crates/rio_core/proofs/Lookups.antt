@@ -4,12 +4,11 @@ use Rattle.std.proofs.Common.{zero, suc, ◌<◌, ◌≤◌, ◌==◌, cond}
 use Rattle.std.specs.Prelude.{◌&&◌, nat_le}
 use Rattle.std.proofs.lemmas.Bool.Decides.{nat_tests}
 use Rattle.rio_model.specs.declared.node.Node.TheVariants.{Dir, File}
-use Rattle.rio_model.specs.Held.{entry_ino, held, held_bytes, held_in, nothing}
-use Rattle.rio_model.specs.HeldRules.{held_ino}
+use Rattle.rio_model.specs.Held.{entry_ino, held, held_bytes, held_in, held_ino, nothing}
 use Rattle.rio_model.specs.Paths.{from_found, is_dir, walk}
 use Rattle.rio_model.specs.Placed.{Layout}
 use Rattle.rio_model.proofs.PlacedRules.{root_ino}
-use Rattle.rio_model.specs.Transactions.{open_inodes}
+use Rattle.rio_model.specs.States.{open_inodes}
 use Rattle.rio_model.specs.VolumeReads.{node_in}
 use Rattle.rio_model.proofs.VolumeReadRules.{reads_dir, reads_file, reads_none}
 use Rattle.rio_model.specs.VolumeRules.{KindRule}
@@ -17,7 +16,7 @@ use Rattle.rio_requests.specs.declared.reply.Reply.TheVariants.{Err as RefusedBy
 use Rattle.rio_requests.specs.Answer.{at_inode, refused}
 use Rattle.rio_requests.specs.Transactions.{at_region, looked, on_region}
 use Rattle.rio_core.proofs.CallEnds.{CallEnds}
-use Rattle.rio_core.specs.Groups.{Within}
+use Rattle.rio_core.specs.Lines.{Within}
 use Rattle.rio_core.specs.CallEnds.{IsAt, ReadsHeld}
 use Rattle.rio_core.specs.Regions.{marks_of}
 

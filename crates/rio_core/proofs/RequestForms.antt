@@ -4,12 +4,11 @@ use Rattle.std.proofs.lemmas.Bool.Decides.{nat_tests}
 use Rattle.std.specs.Prelude.{◌==◌}
 use Rattle.rio_base.specs.declared.failures.Stopped.{Stopped as MachineStopped}
 use Rattle.rio_base.specs.Blocks.{EndsBy, Health}
-use Rattle.rio_base.specs.Counts.{Rose, RoseBy}
+use Rattle.rio_base.specs.Failures.{Rose, RoseBy}
 use Rattle.rio_base.specs.Rules.{true_false}
 use Rattle.rio_base.specs.Volume.{Below}
 use Rattle.rio_model.specs.Paths.{IsPath}
-use Rattle.rio_requests.specs.CrashFiles.{OnFiles}
-use Rattle.rio_requests.specs.Requests.{IsRequest}
+use Rattle.rio_requests.specs.Requests.{IsRequest, OnFiles}
 use Rattle.rio_requests.specs.Went.{Went, faults_in}
 use Rattle.rio_requests.specs.declared.reply.Reply.TheVariants.{Fault as Faulted}
 use Rattle.rio_requests.specs.declared.request.Request.TheVariants.{Sync, Txns, Flush, Wild, Arm}

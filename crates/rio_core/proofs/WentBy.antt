@@ -4,7 +4,7 @@ use Rattle.std.proofs.Common.{le_refl}
 use Rattle.std.specs.Prelude.{◌≤◌, Result, Ok, Err, OnErr}
 use Rattle.rio_base.specs.declared.failures.Stopped.{Stopped as MachineStopped}
 use Rattle.rio_base.specs.Blocks.{Causes, EndsBy, Health}
-use Rattle.rio_base.specs.Counts.{Rose, RoseBy}
+use Rattle.rio_base.specs.Failures.{Rose, RoseBy}
 use Rattle.rio_base.specs.Volume.{Below, Quiet, Runs, StopCause}
 use Rattle.rio_requests.specs.declared.reply.Reply.TheVariants.{Ok as Done, Fault as Faulted}
 use Rattle.rio_requests.specs.declared.request.Request.TheVariants.{Mkdir, Create, Region as MakeRegion, Write, Read, Truncate, Unlink, Rmdir, Rename, Stat as StatOf, List as ListOf, Sync, Begin, Range, Put, Get, Alloc, Free, Commit, Abort, Txns, Arm}

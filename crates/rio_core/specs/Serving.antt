@@ -16,7 +16,7 @@ use Rattle.rio_requests.specs.declared.reply.Reply.TheVariants.{Fault}
 use Rattle.rio_requests.specs.declared.request.Request.{Request}
 use Rattle.request_ends.specs.Ends.{Stands}
 use Rattle.vista_region.specs.Marks.{Marks}
-use Rattle.line_loop.specs.Answering.{Answering as Answers}
+use Rattle.line_loop.specs.Protocol.{Answering as Answers}
 use Rattle.rio_core.specs.Lines.{core_protocol}
 use Rattle.rio_core.specs.Regions.{RegionsHeld}
 

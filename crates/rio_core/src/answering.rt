@@ -3,11 +3,10 @@
 ghost use Rattle.std.specs.Prelude.{IsErr};
 ghost use Rattle.rio_base.specs.Blocks.{EndsBy};
 ghost use Rattle.rio_base.specs.Volume.{Goes};
-ghost use Rattle.rio_requests.specs.Requests.{IsRequest};
+ghost use Rattle.rio_requests.specs.Requests.{IsRequest, OnFiles};
 ghost use Rattle.rio_model.specs.declared.state.State.{State};
-ghost use Rattle.rio_requests.specs.CrashFiles.{OnFiles};
 ghost use Rattle.file_tree.specs.Memos.{InStep};
-ghost use Rattle.rio_core.specs.Groups.{ByName};
+ghost use Rattle.rio_core.specs.Lines.{ByName};
 ghost use Rattle.rio_core.specs.Serving.{RequestEnds, Serves, TellsFault};
 
 use crate::replies::{

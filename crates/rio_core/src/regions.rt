@@ -12,7 +12,7 @@ ghost use Rattle.file_tree.specs.Memos.{InStep};
 ghost use Rattle.region_view.specs.Views.{KeepsInode, OnRegion};
 ghost use Rattle.vista_region.specs.Ends.{Fits};
 ghost use Rattle.rio_core.specs.CallEnds.{CalledOn, IsAt, words_at};
-ghost use Rattle.rio_core.specs.Groups.{Within};
+ghost use Rattle.rio_core.specs.Lines.{Within};
 ghost use Rattle.rio_core.specs.Serving.{RequestEnds, Serves, TellsFault};
 
 use crate::replies::{BAD_REQUEST, begin_reply, fail_reply, get_reply, number_reply, txn_reply};

@@ -4,9 +4,8 @@ ghost use Rattle.rio_model.specs.declared.state.State.{State as StateOf};
 ghost use Rattle.rio_requests.specs.Crash.{crashed};
 ghost use Rattle.rio_requests.proofs.WentRules.{went_more, went_none};
 ghost use Rattle.request_ends.specs.Ends.{Stands};
-ghost use Rattle.rio_core.specs.LineLaws.{long_none};
+ghost use Rattle.rio_core.specs.LineLaws.{core_calm, core_less, core_runs, core_still, long_none};
 ghost use Rattle.rio_core.specs.Lines.{IsCalm, core_protocol, effect_of};
-ghost use Rattle.rio_core.specs.QuietLaws.{core_calm, core_less, core_runs, core_still};
 ghost use Rattle.rio_core.specs.Serving.{Holds};
 
 use crate::replies::BAD_REQUEST;

@@ -2,13 +2,12 @@
 use Rattle.rio_model.proofs.Common.{length, slice_index, slice_set, Some, None, ◌∙◌, ap, sym, subst, inl, inr, arith, cases_eq, Contents, true_false, put}
 use Rattle.std.specs.Prelude.{◌≡◌, ◌≢◌, ℕ, ◌+◌, ◌*◌, ◌<◌, ◌≤◌, Bool, true, false, ◌⊎◌, List, refl}
 use Rattle.rio_base.specs.Image.{registry_pages}
-use Rattle.rio_model.specs.Registry.{IsValid, KeepsRegistry, OneEntry, frames_of, gate_of, is_dirty, is_valid, page_of_entry, shadow_at, tag_at, tag_block}
+use Rattle.rio_model.specs.Registry.{EntryKeeps, IsValid, KeepsRegistry, OneEntry, frames_of, gate_of, is_dirty, is_valid, page_of_entry, shadow_at, tag_at, tag_block}
 use Rattle.rio_model.specs.Cover.{Keeps, Coherent, cover_by, entry_of_block, frame_page, home_word, is_loose, reads, stands}
 use Rattle.rio_model.specs.CoverLookups.{cover_at, cover_home, cover_same, found_is}
 use Rattle.rio_model.proofs.CoverLookups.{found_at, found_free, frames_one, header_one, tag_one}
 use Rattle.rio_model.specs.CoverChanges.{OnePage, SameEntries, covers_by, place_bare}
 use Rattle.rio_model.proofs.CoverChanges.{cover_off, cover_put, entry_same, found_entries, found_kept, found_made, found_other, reads_kept, frame_behind, frame_entries, frame_word_one, header_same, off_page, one_page_set, page_word_one, place_cases, place_entries, place_shadow, same_entries, tag_same}
-use Rattle.rio_model.specs.RegistryRules.{EntryKeeps}
 use Rattle.rio_model.proofs.RegistryRules.{entry_keeps, registry_one}
 use Rattle.rio_model.proofs.CoverSteps.{disk_same, firm_by, pending_same, coherent_one}
 use Rattle.rio_model.specs.CoverFills.{Made, Puts}

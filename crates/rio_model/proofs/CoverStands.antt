@@ -8,12 +8,11 @@ use Rattle.rio_base.specs.declared.places.PageName.{PageName}
 use Rattle.rio_model.specs.Registry.{IsValid, frames_of, gate_of, file_at, index_at, is_data, is_valid, page_of_entry, shadow_at, size_at, tag_at, tag_block}
 use Rattle.rio_model.specs.Cover.{Coherent, MayLeave, Narrows, SameNames, entry_of_block, frame_page, has_dirty, is_loose, name_in, reads, stands, stands_on}
 use Rattle.rio_model.specs.Standing.{Sound}
-use Rattle.rio_model.specs.CoverChanges.{covers_by, place_bare}
+use Rattle.rio_model.specs.CoverChanges.{covers_by, place_bare, stands_idle}
 use Rattle.rio_model.proofs.CoverChanges.{frame_behind, frame_same}
 use Rattle.rio_model.specs.CoverLookups.{cover_same, found_is}
 use Rattle.rio_model.proofs.CoverLookups.{found_same}
 use Rattle.rio_model.proofs.CoverSteps.{dirty_some, loose_from}
-use Rattle.rio_model.specs.CoverStands.{stands_idle}
 
 -- ---- blocks that aren't loose
 

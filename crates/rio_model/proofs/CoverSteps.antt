@@ -5,13 +5,12 @@ use Rattle.std.proofs.lemmas.Bool.{and_parts, and_from}
 use Rattle.std.proofs.lemmas.List.{get_or-replicate, get_or_past, length-replicate}
 use Rattle.rio_base.specs.Image.{registry_pages}
 use Rattle.rio_base.specs.Machine.{WritesBlock}
-use Rattle.rio_model.specs.Registry.{HasLayout, IsValid, KeepsMetadata, KeepsName, KeepsRegistry, KeepsShadow, KeepsTag, OneEntry, file_at, index_at, size_at, frames_of, is_data, is_dirty, is_valid, page_of_entry, shadow_at, tag_at, tag_block, with_dirty, without_dirty}
+use Rattle.rio_model.specs.Registry.{HasLayout, IsValid, KeepsMetadata, KeepsName, KeepsRegistry, KeepsShadow, KeepsTag, OneEntry, file_at, index_at, size_at, frames_of, is_data, is_dirty, is_valid, page_of_entry, shadow_at, tag_at, tag_block, with_dirty, without_dirty, EntryKeeps}
 use Rattle.rio_model.specs.Cover.{EntryCoherent, IsBare, Keeps, OnDisk, Coherent, cover_by, dirty_entry, entry_of_block, frame_page, has_dirty, home_word, is_loose, reads, stands}
 use Rattle.rio_model.specs.CoverLookups.{cover_at, cover_home, cover_same, found_is}
 use Rattle.rio_model.proofs.CoverLookups.{found_at, frames_one, header_one, tag_one}
 use Rattle.rio_model.proofs.CoverChanges.{cover_written, found_cleared, found_kept, found_other, frame_word_one, page_word_one, reads_kept, stands_kept}
 use Rattle.rio_model.specs.CoverChanges.{covers_by, place_bare}
-use Rattle.rio_model.specs.RegistryRules.{EntryKeeps}
 use Rattle.rio_model.proofs.RegistryRules.{cleaned_bits, cleaned_block, cleaned_data, cleaned_valid, dirtied_bits, dirtied_block, dirtied_data, dirtied_dirty, dirtied_valid, entry_keeps, registry_one}
 
 pub keeps_refl : (c : Contents) → Keeps c c

@@ -19,8 +19,7 @@ use Rattle.rio_model.specs.declared.node.Node.TheVariants.{Dir, File, Region}
 use Rattle.rio_model.specs.declared.state.State.{State}
 use Rattle.rio_model.specs.States.{names_in}
 use Rattle.rio_model.proofs.CountRules.{free_by_layout}
-use Rattle.rio_model.specs.Held.{Held, held, held_of, byte_in, entry_name, HasEntry}
-use Rattle.rio_model.specs.HeldRules.{held_ino}
+use Rattle.rio_model.specs.Held.{Held, held, held_of, byte_in, entry_name, HasEntry, held_ino}
 use Rattle.rio_model.specs.Names.{NameKey, Names, name_cmp}
 use Rattle.rio_model.specs.Placed.{Placed, placed_at, volume_layout}
 use Rattle.rio_model.proofs.PlacedRules.{placed_blocks, layout_blocks}

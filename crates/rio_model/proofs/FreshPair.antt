@@ -11,8 +11,7 @@ use Rattle.rio_model.specs.declared.node.Node.{Node}
 use Rattle.rio_model.specs.declared.node.Node.TheVariants.{Dir}
 use Rattle.rio_model.specs.Censuses.{IsCensus, is_file, is_region}
 use Rattle.rio_model.specs.Cover.{MayLeave, home_word, name_at, name_in, stands_on}
-use Rattle.rio_model.specs.Fresh.{fresh_state}
-use Rattle.rio_model.specs.FreshVolume.{IsFreshVolume}
+use Rattle.rio_model.specs.Fresh.{IsFreshVolume, fresh_state}
 use Rattle.rio_model.specs.Names.{NameKey, Names, name_cmp}
 use Rattle.rio_model.specs.Nodes.{Nodes}
 use Rattle.rio_model.specs.Paths.{is_dir}

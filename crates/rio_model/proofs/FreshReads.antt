@@ -5,8 +5,7 @@ use Rattle.std.specs.Prelude.{nat_le}
 use Rattle.std.specs.FinMap.{empty, get-empty}
 use Rattle.rio_base.specs.Layout.{inode_kind, inode_size}
 use Rattle.rio_model.specs.declared.node.Node.TheVariants.{Dir}
-use Rattle.rio_model.specs.Fresh.{fresh_state}
-use Rattle.rio_model.specs.FreshVolume.{IsFreshVolume}
+use Rattle.rio_model.specs.Fresh.{IsFreshVolume, fresh_state}
 use Rattle.rio_model.specs.Held.{Held, held, nothing, held_of, HasEntry}
 use Rattle.rio_model.specs.Names.{name_cmp}
 use Rattle.rio_model.specs.Placed.{Slot, AtPage, AtTable, Placed, HasSlot, placed_at, volume_layout, Owned}

@@ -5,8 +5,7 @@ use Rattle.rio_model.proofs.Common.{◌≡◌, ℕ, ◌+◌, ◌<◌, ◌≤◌,
 use Rattle.rio_base.specs.Image.{entry_at}
 use Rattle.rio_model.specs.Cover.{SameNames}
 use Rattle.rio_model.specs.CoverChanges.{Gated}
-use Rattle.rio_model.specs.Registry.{IsValid, KeepsRegistry, frames_of, is_valid, shadow_at, tag_at, tag_block}
-use Rattle.rio_model.specs.RegistryRules.{EntryKeeps}
+use Rattle.rio_model.specs.Registry.{EntryKeeps, IsValid, KeepsRegistry, frames_of, is_valid, shadow_at, tag_at, tag_block}
 use Rattle.rio_model.proofs.RegistryRules.{entry_keeps}
 
 pub gated : (words : List ℕ) (g : ℕ) → 4 < length words → Gated g words (slice_set words 4 g)

@@ -1,10 +1,9 @@
 -- Laws of what inodes hold: it depends on the layout and on the blocks in use alone.
 use Rattle.rio_model.proofs.Common.{nat_lt, if◌then◌else◌, VolumeShape, BlockWords, ◌≡◌, ℕ, ◌+◌, ◌*◌, ◌/◌, ◌%◌, ◌<◌, ◌≤◌, ◌&&◌, Bool, true, false, cond, refl, sym, ap, ◌∙◌, arith, nat_tests, IsIno}
 use Rattle.std.specs.Prelude.{◌≡◌, ℕ, ◌+◌, ◌*◌, ◌/◌, ◌%◌, ◌<◌, ◌&&◌, ◌==◌, nat_le}
-use Rattle.rio_model.specs.Placed.{AtPage, Placed, Layout, HasSlot, Agrees}
+use Rattle.rio_model.specs.Placed.{AtPage, Placed, Layout, HasSlot, Agrees, SamePlaced}
 use Rattle.rio_model.specs.Held.{Held, held, nothing, held_in, held_of}
 use Rattle.rio_model.proofs.PlacedRules.{Lays, SameLayout, lays_same}
-use Rattle.rio_model.specs.PlacedRules.{SamePlaced}
 
 -- with one word another
 abbrev pub with_word : Held → ℕ → ℕ → Held

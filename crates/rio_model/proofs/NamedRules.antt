@@ -2,8 +2,7 @@
 use Rattle.rio_model.proofs.Common.{◌≡◌, ℕ, ◌<◌, true, Option, Some, None, sym, subst, ◌∙◌, BlockWords}
 use Rattle.rio_base.specs.declared.places.PageName.{PageName}
 use Rattle.rio_base.specs.Blocks.{Seen}
-use Rattle.rio_model.specs.Placed.{AtPage, AtTable, Layout, Placed, Slot, volume_layout}
-use Rattle.rio_model.specs.PlacedRules.{SamePlaced}
+use Rattle.rio_model.specs.Placed.{AtPage, AtTable, Layout, Placed, SamePlaced, Slot, volume_layout}
 use Rattle.rio_model.specs.VolumeReady.{AllNamed, Bears, NamesPage}
 use Rattle.rio_model.proofs.PlacedRules.{SameLayout, has_back}
 

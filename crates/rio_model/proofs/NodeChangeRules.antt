@@ -1,9 +1,8 @@
 -- A change of one node leaves a volume that keeps its rules, in which every other node holds what it held.
 use Rattle.rio_model.proofs.Common.{◌≡◌, ◌≢◌, ℕ, ◌+◌, ◌-◌, ◌*◌, ◌/◌, ◌%◌, ◌<◌, ◌≤◌, ◌⊎◌, cond, refl, sym, ap, subst, ◌∙◌, arith, inl, inr, cases_eq, nat_tests, VolumeShape, used_bit, BlockWords, inode_block, inode_word, IsIno, reserved}
 use Rattle.rio_base.specs.Layout.{inode_place}
-use Rattle.rio_model.specs.Held.{held, held_of}
+use Rattle.rio_model.specs.Held.{held, held_ino, held_of}
 use Rattle.rio_model.proofs.HeldRules.{held_agree, held_at, held_by}
-use Rattle.rio_model.specs.HeldRules.{held_ino}
 use Rattle.rio_model.specs.NodeChanges.{Without, Available, Change}
 use Rattle.rio_model.specs.Placed.{Slot, AtPage, AtTable, Placed, HasSlot, Lies, Layout, volume_layout, Owns}
 use Rattle.rio_model.proofs.PlacedRules.{Lays, with_placed, lies_agree, lays_self, node_fits, laid_by_nodes, inode_low, inode_no_bitmap, superblock_no_bitmap, above_no_bitmap, has_bit, reserved_below, mapped_by}

@@ -1,7 +1,7 @@
 -- How the pieces between separators begin and end.
 use Rattle.rio_model.proofs.Common.{◌≡◌, ◌≢◌, ◌==◌, ◌<◌, ◌≤◌, ◌+◌, ℕ, false, cond, List, [], ◌∷◌, ◌++◌, drop, refl, sym, ap, subst, ◌∙◌, arith, nat_tests, Decides-eqb}
 use Rattle.std.proofs.Common.{length, get_or, append_assoc, append-nil}
-use Rattle.rio_base.specs.Pieces.{pieces, onto, Lacks}
+use Rattle.rio_base.specs.Bytes.{pieces, onto, Lacks}
 use Rattle.std.proofs.lemmas.List.{drop_more, drop_all}
 
 -- a piece and the separator behind it

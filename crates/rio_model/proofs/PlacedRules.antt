@@ -6,9 +6,8 @@ use Rattle.rio_base.specs.Shapes.{IsShape, more_bitmap}
 use Rattle.rio_model.specs.Sizes.{pages, blocks_for}
 use Rattle.rio_base.specs.Bitmap.{bitmap_block}
 use Rattle.rio_model.specs.NodeChanges.{IsBitmap}
-use Rattle.rio_model.specs.Placed.{Slot, AtPage, AtTable, Placed, Within, HasSlot, number_at, Lies, placed_at, Layout, volume_layout, Owns, Owned, IsFree, Agrees}
+use Rattle.rio_model.specs.Placed.{Slot, AtPage, AtTable, Placed, Within, HasSlot, number_at, Lies, placed_at, Layout, volume_layout, Owns, Owned, IsFree, Agrees, SamePlaced}
 use Rattle.rio_model.specs.VolumeRules.{SuperblockRule, bitmap_bits, ReservedRule, SizeFits, NumberRule, MarkRule, IsNumbered, IsLaid, IsMapped, NodeFits}
-use Rattle.rio_model.specs.PlacedRules.{SamePlaced}
 
 -- blocks say this layout
 pub record Lays (l : Layout) (f : BlockWords) : Type 0 where

@@ -5,9 +5,8 @@ use Rattle.std.proofs.Common.{length-take-le, get_or-take}
 use Rattle.std.proofs.lemmas.List.{length-drop}
 use Rattle.rio_base.specs.Image.{AreImageSizes, image_pages, registry_pages}
 use Rattle.rio_base.specs.Memory.{page_at}
-use Rattle.rio_model.specs.Registry.{IsValid, KeepsRegistry, OneEntry, frames_of, is_data, is_dirty, is_valid, shadow_at, tag_at, tag_block, with_dirty, without_dirty, HasLayout, page_of_entry}
+use Rattle.rio_model.specs.Registry.{IsValid, KeepsRegistry, OneEntry, frames_of, is_data, is_dirty, is_valid, shadow_at, tag_at, tag_block, with_dirty, without_dirty, HasLayout, page_of_entry, EntryKeeps}
 use Rattle.rio_model.proofs.CoverLookups.{entry_one, frames_one, header_one, tag_one}
-use Rattle.rio_model.specs.RegistryRules.{EntryKeeps}
 
 -- its words
 abbrev pub entry_page : List ℕ → ℕ → List ℕ

@@ -11,7 +11,7 @@ use Rattle.rio_base.specs.declared.places.PageName.{PageName}
 use Rattle.rio_model.specs.declared.state.State.{State}
 use Rattle.rio_model.specs.Cover.{Coherent, MayLeave, Narrows, StandsAs, entry_of_block, name_at, name_in, reads, stands, stands_on}
 use Rattle.rio_model.specs.CoverLookups.{cover_same, found_is}
-use Rattle.rio_model.specs.CoverStands.{stands_idle}
+use Rattle.rio_model.specs.CoverChanges.{stands_idle}
 use Rattle.rio_model.specs.Placed.{Agrees, AtPage, AtTable, Layout, Owned, Owns, Slot, volume_layout}
 use Rattle.rio_model.specs.Registry.{BlockRule, IsValid, file_at, gate_of, index_at, is_data, page_of_entry, tag_at, tag_block}
 use Rattle.rio_model.specs.Standing.{AllHome, AreStale, Endures, EntriesFit, EntryFits, IsHome, IsWanted, MayBear, Restorable, StandsBut, StandsFor, StandsWith, entries_seen, is_stale, none_apart, stale_block}

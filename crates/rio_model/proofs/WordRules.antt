@@ -2,9 +2,8 @@
 -- free block nothing. So it is of any change that differs in pages of one node, or in free blocks, alone.
 use Rattle.rio_model.proofs.Common.{◌≡◌, ◌≢◌, ℕ, zero, suc, ◌+◌, ◌*◌, ◌/◌, ◌%◌, ◌<◌, ◌≤◌, ◌==◌, ◌&&◌, ◌⊎◌, Bool, true, false, cond, List, ◌∷◌, map, refl, sym, ap, subst, ◌∙◌, arith, inl, inr, nat_lt, bit_at, range_with_len, cases_eq, nat_tests, VolumeShape, used_bit, BlockWords, IsIno, put}
 use Rattle.rio_base.specs.Volume.{put_run, SameBut}
-use Rattle.rio_model.specs.Held.{Held, held, held_of, word_in, byte_of, byte_in, held_bytes}
+use Rattle.rio_model.specs.Held.{Held, held, held_of, word_in, byte_of, byte_in, held_bytes, held_ino}
 use Rattle.rio_model.proofs.HeldRules.{with_word, same_held, counts_of, counts_below, page_counts, held_agree, held_at, held_by}
-use Rattle.rio_model.specs.HeldRules.{held_ino}
 use Rattle.rio_model.proofs.LowestBlocks.{bits_agree, lowest_same}
 use Rattle.rio_model.proofs.NodeChanges.{IsAt}
 use Rattle.rio_model.specs.NodeChanges.{SetsFile}

@@ -1,12 +1,14 @@
--- Covers word by word, the page that counts for an entry, and words of which one page, or the gate alone, changes.
+-- Covers word by word, the page that counts for an entry, words of which one page, or the gate alone, changes, and what
+-- stands while no update is open.
 use Rattle.std.specs.Prelude.{◌≡◌, ◌≢◌, ℕ, ◌+◌, ◌*◌, ◌<◌, ◌≤◌, ◌==◌, ◌&&◌, not, Bool, true, false, if◌then◌else◌, ◌⊎◌, List, length, slice_index, refl}
-use Rattle.std.proofs.Common.{◌∙◌, sym, inl, inr, arith}
+use Rattle.std.proofs.Common.{◌∙◌, sym, inl, inr, arith, ap}
 use Rattle.std.proofs.lemmas.Bool.{eq-eqb, ne_eqb}
 use Rattle.rio_base.specs.Image.{registry_pages}
 use Rattle.rio_base.specs.Rules.{true_false}
+use Rattle.rio_base.specs.Machine.{Contents}
 use Rattle.rio_model.specs.Registry.{frames_of, gate_of, page_of_entry, shadow_at}
-use Rattle.rio_model.specs.Cover.{cover_by, frame_page}
-use Rattle.rio_model.specs.CoverLookups.{cover_past}
+use Rattle.rio_model.specs.Cover.{cover_by, frame_page, reads, stands}
+use Rattle.rio_model.specs.CoverLookups.{cover_past, cover_same}
 
 -- ---- covers, word by word
 
@@ -52,3 +54,13 @@ pub record Gated (g : ℕ) (old new : List ℕ) : Type 0 where
   pub count : length new ≡ length old
   pub gate : gate_of new ≡ g
   pub others : (i : ℕ) → i ≢ 4 → slice_index new i ≡ slice_index old i
+
+-- ---- the gate
+
+-- while the gate isn't 1, what reads stands
+pub stands_idle : (c : Contents) → gate_of c.words ≢ 1 → stands c ≡ reads c
+stands_idle c shut = covers_by (frame_page c.words) c.words c.disk (page_of_entry c.words) c.words c.disk (λ b w less. cover_same (frame_page c.words) c.words c.disk (page_of_entry c.words) c.words c.disk b w (record {
+  entry = refl;
+  pages = λ k x e small. ap (λ p. slice_index c.words (512 * p + x)) (place_bare c.words k (inl shut));
+  homes = λ x e small. refl;
+}))

@@ -2,9 +2,8 @@
 use Rattle.std.specs.Prelude.{◌≡◌, ◌≢◌, ℕ, ◌<◌, Bool, true, false, List}
 use Rattle.rio_base.specs.Machine.{Contents}
 use Rattle.rio_base.specs.Volume.{put}
-use Rattle.rio_model.specs.Registry.{IsValid, OneEntry, frames_of, gate_of, is_dirty, is_valid, shadow_at, tag_at, tag_block}
+use Rattle.rio_model.specs.Registry.{EntryKeeps, IsValid, OneEntry, frames_of, gate_of, is_dirty, is_valid, shadow_at, tag_at, tag_block}
 use Rattle.rio_model.specs.Cover.{Coherent, is_loose, reads, stands}
-use Rattle.rio_model.specs.RegistryRules.{EntryKeeps}
 
 -- ---- an entry is made
 

@@ -3,8 +3,11 @@
 use Rattle.std.specs.Prelude.{◌≡◌, ℕ, ◌+◌, ◌*◌, ◌/◌, ◌%◌, ◌^◌, ◌<◌, ◌&&◌, nat_lt, nat_le, if◌then◌else◌, List, map, slice_index}
 use Rattle.std.specs.List.{range_with_len}
 use Rattle.std.specs.Int.{w64, to_le_bytes}
+use Rattle.std.proofs.Common.{true, cond, ap, arith}
+use Rattle.std.proofs.lemmas.Bool.Decides.{nat_tests}
 use Rattle.rio_base.specs.declared.places.VolumeShape.{VolumeShape}
 use Rattle.rio_base.specs.Blocks.{BlockWords}
+use Rattle.rio_base.specs.Layout.{IsIno}
 use Rattle.rio_model.specs.Placed.{AtPage, Placed, Layout, volume_layout}
 
 -- words past the size are 0 here, whatever stands there
@@ -64,3 +67,8 @@ entry_name h j = bytes_in h.word (64 * j + 8) (entry_length h j)
 pub record HasEntry (held : ℕ → Held) (d j : ℕ) : Type 0 where
   pub dir : (held d).kind ≡ 1
   pub within : 64 * j < (held d).size
+
+-- ---- what an inode holds, by its node
+
+pub held_ino : (l : Layout) (f : BlockWords) (i : ℕ) → IsIno l.shape i → held_in l f i ≡ held f (l.node i)
+held_ino l f i ino = let within : (nat_le 1 i && nat_le i l.shape.inodes) ≡ true = grind (arith, nat_tests, ino.from, ino.to) in ap (λ b. cond b (held f (l.node i)) nothing) within

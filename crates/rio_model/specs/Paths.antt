@@ -1,7 +1,7 @@
 -- Names and paths, and what stands at a path.
 use Rattle.std.specs.Prelude.{◌≢◌, ◌≤◌, ℕ, Bool, true, false, List, [], ◌∷◌, length, All, drop, codes, flat_map, ◌≡◌, ◌⊎◌, Option, Some, None, Result, Ok, Err, if◌then◌else◌}
 use Rattle.std.specs.FinMap.{get}
-use Rattle.rio_base.specs.Pieces.{pieces}
+use Rattle.rio_base.specs.Bytes.{pieces}
 use Rattle.rio_model.specs.declared.node.Node.{Node}
 use Rattle.rio_model.specs.declared.node.Node.TheVariants.{Dir}
 use Rattle.rio_model.specs.declared.state.State.{State}

@@ -86,3 +86,10 @@ pub record AgreesBeside (l : Layout) (i : ℕ) (f g : BlockWords) : Type 0 where
   pub low : (b w : ℕ) → b < reserved l.shape → g b w ≡ f b w
   pub tables : (t : ℕ) → HasSlot (l.node i) (AtTable t) → (w : ℕ) → g ((l.node i).block (AtTable t)) w ≡ f ((l.node i).block (AtTable t)) w
   pub others : (j : ℕ) (s : Slot) → j ≢ i → Owns l j s → (w : ℕ) → g ((l.node j).block s) w ≡ f ((l.node j).block s) w
+
+-- ---- two descriptions of one node
+
+pub record SamePlaced (n m : Placed) : Type 0 where
+  pub kind : m.kind ≡ n.kind
+  pub size : 0 < n.kind → m.size ≡ n.size
+  pub blocks : (s : Slot) → HasSlot n s → m.block s ≡ n.block s

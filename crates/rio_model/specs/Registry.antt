@@ -165,3 +165,13 @@ FailsRegistry words r =
     ((r ≡ 10) × ¬ SizeRule words) ⊎ (SizeRule words × (
     ((r ≡ 11) × ¬ ShadowRule words) ⊎ (ShadowRule words × (
     (r ≡ 12) × ¬ ShadowsApart words))))))))))))))
+
+-- ---- one entry
+
+-- what an entry has to keep by itself
+pub record EntryKeeps (words : List ℕ) (k : ℕ) : Type 0 where
+  pub tag : KeepsTag (tag_at words k)
+  pub metadata : KeepsMetadata (tag_at words k) (file_at words k) (index_at words k) (size_at words k)
+  pub name : KeepsName (tag_at words k) (file_at words k) (index_at words k)
+  pub size : KeepsSize (tag_at words k) (size_at words k)
+  pub shadow : KeepsShadow (tag_at words k) (shadow_at words k)

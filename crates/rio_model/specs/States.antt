@@ -1,10 +1,11 @@
--- What of a state a request looks up, and what it changes of it.
+-- What of a state a request looks up, its open transactions among it, and what it changes of it.
 use Rattle.std.specs.Prelude.{◌-◌, ◌==◌, ℕ, List, [], length, map, filter, take, drop, slice_index_or, Option, is_none, find}
 use Rattle.std.specs.List.{range_with_len}
 use Rattle.std.specs.FinMap.{get, insert, keys}
 use Rattle.rio_model.specs.declared.node.Node.{Node}
 use Rattle.rio_model.specs.declared.state.State.{State}
 use Rattle.rio_model.specs.Names.{NameKey}
+use Rattle.rio_model.specs.declared.txn.Txn.{Txn}
 
 -- the least inode from 1 to I that no node has
 abbrev pub least_free : State → Option ℕ
@@ -34,3 +35,9 @@ front_of names = take (length names - 1) names
 
 abbrev pub last_of : List (List ℕ) → List ℕ
 last_of names = slice_index_or names (length names - 1) []
+
+-- ---- open transactions
+
+-- the inodes of the open regions, in order of `begin`
+abbrev pub open_inodes : State → List ℕ
+open_inodes s = map (λ (t : Txn). t.ino.0) s.txns

@@ -1,7 +1,7 @@
 //! The files of the operating system.
 
 ghost use Rattle.std.specs.Prelude.{◌≡◌, ◌≤◌, ℕ, None, Result, IfOk, length};
-ghost use Rattle.rio_base.specs.Counts.{HasCause, Rose};
+ghost use Rattle.rio_base.specs.Failures.{HasCause, Rose};
 
 use crate::file_lock::{FileLock, HostFile};
 use crate::open_files::OpenFiles;

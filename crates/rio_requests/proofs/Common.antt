@@ -7,8 +7,7 @@ pub use Rattle.rio_base.specs.Shapes.{reserved}
 pub use Rattle.rio_model.specs.FileParts.{resized}
 pub use Rattle.rio_model.specs.Paths.{is_dir, walk, walk_to_dir}
 pub use Rattle.rio_model.specs.Sizes.{blocks_for, free_count, largest_size, node_blocks}
-pub use Rattle.rio_model.specs.States.{front_of, last_of, least_free, names_in, with_new, with_node}
-pub use Rattle.rio_model.specs.Transactions.{open_inodes}
+pub use Rattle.rio_model.specs.States.{front_of, last_of, least_free, names_in, open_inodes, with_new, with_node}
 pub use Rattle.rio_model.specs.Undo.{region_words}
 pub use Rattle.rio_model.specs.declared.node.Node.{Node}
 pub use Rattle.rio_model.specs.declared.node.Node.TheVariants.{Dir, File, Region}

@@ -16,7 +16,7 @@ use Rattle.rio_requests.specs.Answers.{answer_of, at_row, create, found, is_belo
 use Rattle.rio_requests.specs.Crash.{NotOpen, OpenRegions, crashed}
 use Rattle.rio_requests.specs.Parts.{FaultStep, IsPart, LeadStep, NoneDone, PartOf, WriteDone}
 use Rattle.rio_requests.proofs.CrashRules.{Alike, LeavesOpen, crash_alike, dir_not_open, file_crashed, file_not_open, free_count_crashed, idle_not_open, is_dir_crashed, is_open_crashed, least_free_crashed, leaves_itself, leaves_new, leaves_node, leaves_replaced, leaves_without, none_not_open, replaced_crashed, still_regions, walk_crashed, walk_to_dir_crashed, with_new_crashed, with_node_crashed, without_crashed}
-use Rattle.rio_requests.specs.CrashFiles.{OnFiles}
+use Rattle.rio_requests.specs.Requests.{OnFiles}
 
 -- an answer, with the open transactions of the state after it undone
 abbrev pub after_crash : Answered → Answered

@@ -2,7 +2,7 @@
 use Rattle.std.specs.Prelude.{◌≡◌, ◌+◌, ◌++◌, ◌≤◌, ℕ, List, [], ◌∷◌, length, Option, Some, None, ◌⊎◌}
 use Rattle.std.proofs.Common.{le_trans, le_refl, ◌∙◌, refl, sym, ap, subst, inl, inr, arith, length-append}
 use Rattle.rio_base.specs.Blocks.{Health}
-use Rattle.rio_base.specs.Counts.{RoseBy}
+use Rattle.rio_base.specs.Failures.{RoseBy}
 use Rattle.rio_base.specs.Rules.{limit_refl, limit_trans}
 use Rattle.rio_base.specs.Volume.{Below, Quiet, Runs}
 use Rattle.rio_requests.specs.declared.reply.Reply.{Reply}

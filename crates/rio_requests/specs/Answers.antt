@@ -12,11 +12,10 @@ use Rattle.rio_model.specs.declared.state.State.{State}
 use Rattle.rio_requests.specs.declared.answered.Answered.{Answered}
 use Rattle.rio_requests.specs.declared.reply.Reply.TheVariants.{Ok as Done, Number, Bytes, Stat, Names as NamesOf}
 use Rattle.rio_requests.specs.Answer.{answered, at_inode, on_file, refused}
-use Rattle.rio_model.specs.States.{bytes_from, front_of, last_of, least_free, names_in, with_new, with_node}
+use Rattle.rio_model.specs.States.{bytes_from, front_of, last_of, least_free, names_in, open_inodes, with_new, with_node}
 use Rattle.rio_model.specs.FileParts.{resized, written}
 use Rattle.rio_model.specs.Paths.{from_found, is_dir, names_of, walk, walk_to_dir}
 use Rattle.rio_model.specs.Sizes.{blocks_for, data_pages, free_count, largest_size}
-use Rattle.rio_model.specs.Transactions.{open_inodes}
 use Rattle.rio_model.specs.Undo.{region_words}
 use Rattle.rio_requests.specs.RegionAnswers.{abort_on, alloc_on, begin_on, commit_on, free_on, get_on, put_on, range_on}
 use Rattle.rio_requests.specs.Transactions.{arm, at_region, changed, looked, txns, wild}

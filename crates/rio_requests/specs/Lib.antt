@@ -1,7 +1,6 @@
 pub mod Answer
 pub mod Answers
 pub mod Crash
-pub mod CrashFiles
 pub mod Parts
 pub mod RegionAnswers
 pub mod Requests

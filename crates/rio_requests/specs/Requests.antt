@@ -1,8 +1,8 @@
--- Requests that a line can be.
+-- Requests that a line can be, and those on files, which ask for no words of a region.
 use Rattle.std.specs.Prelude.{◌≤◌, ℕ, length}
+use Rattle.rio_model.specs.Paths.{IsPath}
 use Rattle.rio_requests.specs.declared.request.Request.{Request}
 use Rattle.rio_requests.specs.declared.request.Request.TheVariants.{Mkdir, Create, Region, Write, Read, Truncate, Unlink, Rmdir, Rename, Stat, List as ListOf, Sync, Begin, Range, Put, Get, Alloc, Free, Commit, Abort, Txns, Flush, Wild, Arm}
-use Rattle.rio_model.specs.Paths.{IsPath}
 
 -- the most bytes that one request carries or asks for
 abbrev pub most_data : ℕ
@@ -34,3 +34,20 @@ IsRequest Txns = Unit {0}
 IsRequest (Flush count) = Unit {0}
 IsRequest (Wild at value) = Unit {0}
 IsRequest (Arm step at value) = Unit {0}
+
+-- ---- all requests on files
+
+-- it asks for files, directories and names, and for no words of a region
+abbrev pub OnFiles : Request → Type 0
+OnFiles (Mkdir path) = Unit {0}
+OnFiles (Create path) = Unit {0}
+OnFiles (Region path pages undo) = Unit {0}
+OnFiles (Write path off bytes) = Unit {0}
+OnFiles (Read path off len) = Unit {0}
+OnFiles (Truncate path len) = Unit {0}
+OnFiles (Unlink path) = Unit {0}
+OnFiles (Rmdir path) = Unit {0}
+OnFiles (Rename path to) = Unit {0}
+OnFiles (Stat path) = Unit {0}
+OnFiles (ListOf path) = Unit {0}
+OnFiles _ = ⊥

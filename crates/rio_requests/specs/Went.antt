@@ -1,7 +1,7 @@
 -- What requests do to a server's health and to the machine below, and how a request stops the machine.
 use Rattle.std.specs.Prelude.{◌≡◌, ◌≤◌, ◌+◌, ◌/◌, ℕ, true, false, List, [], ◌∷◌, length, Option, Some, None, ◌⊎◌}
 use Rattle.rio_base.specs.Blocks.{Causes, Health}
-use Rattle.rio_base.specs.Counts.{RoseBy}
+use Rattle.rio_base.specs.Failures.{RoseBy}
 use Rattle.rio_base.specs.Volume.{Below, LimitLasts, Quiet, StopCause}
 use Rattle.rio_requests.specs.declared.reply.Reply.{Reply}
 use Rattle.rio_requests.specs.declared.reply.Reply.TheVariants.{Ok as Done, Fault}

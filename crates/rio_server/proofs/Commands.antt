@@ -13,7 +13,7 @@ use Rattle.rio_words.specs.declared.command.RioCommand.TheVariants.{Format, Serv
 use Rattle.rio_words.specs.declared.fail.WordsFail.{WordsFail}
 use Rattle.rio_words.specs.declared.fail.WordsFail.TheVariants.{Usage}
 use Rattle.rio_base.specs.Streams.{appended}
-use Rattle.rio_server.specs.Drills.{Drills}
+use Rattle.rio_server.specs.Commands.{CheckRuns, DrillRuns, Drills, FormatRuns, IsServe, NamesAbsent, Obeyed, Obeys, RegistryRuns}
 use Rattle.boots.specs.Told.{WroteFront, memory_line as told_line}
 use Rattle.rio_commands.specs.declared.formatting.FormatEnd.{FormatEnd}
 use Rattle.rio_commands.specs.declared.formatting.FormatEnd.TheVariants.{Formatted, DiskFault, ImageFault, Memory as NoRoom}
@@ -22,7 +22,6 @@ use Rattle.rio_commands.specs.declared.ends.RegistryEnd.TheVariants.{Memory as N
 use Rattle.rio_commands.specs.declared.formatting.FormatSizes.{FormatSizes}
 use Rattle.rio_commands.specs.Check.{Checks}
 use Rattle.rio_commands.specs.Command.{WritesLine, memory_line}
-use Rattle.rio_server.specs.Commands.{CheckRuns, DrillRuns, FormatRuns, IsServe, NamesAbsent, Obeyed, Obeys, RegistryRuns}
 use Rattle.rio_commands.specs.Format.{Formats, format_sizes, format_status}
 use Rattle.rio_commands.specs.Outside.{Benched, HostRose, Outside, SinkRose, SourceRose}
 use Rattle.rio_commands.specs.Registry.{Lists}

@@ -7,7 +7,7 @@ use Rattle.boots.specs.declared.plan.BootPlan.{BootPlan}
 use Rattle.boots.specs.Plans.{boot_plan, cut_boot, last_boot, last_boots, share, some_requests}
 use Rattle.boots.specs.Legal.{IsBootPlan}
 use Rattle.rio_requests.specs.Requests.{IsRequest}
-use Rattle.work_gen.specs.Boots.{boot}
+use Rattle.work_gen.specs.Draws.{boot}
 use Rattle.work_gen.specs.Requests.{request}
 use Rattle.work_gen.proofs.Forms.{request_is}
 

@@ -1,5 +1,5 @@
 -- The words that are a command, and what a run of each command leaves.
-use Rattle.std.specs.Prelude.{◌≡◌, ◌⊎◌, ℕ, List, Option, Some}
+use Rattle.std.specs.Prelude.{◌⊎◌, ℕ, ◌≡◌, List, Option, Some}
 use Rattle.rio_base.specs.Hosts.{Files, IsAbsent}
 use Rattle.rio_model.specs.declared.state.State.{State}
 use Rattle.pair_files.specs.Pairs.{HasPair}
@@ -7,13 +7,24 @@ use Rattle.rio_words.specs.Tokens.{Text}
 use Rattle.rio_words.specs.Words.{Reads}
 use Rattle.rio_words.specs.declared.command.RioCommand.{RioCommand}
 use Rattle.rio_words.specs.declared.command.RioCommand.TheVariants.{Format, Serve, Registry, Check, Drill}
-use Rattle.rio_server.specs.Drills.{Drills}
 use Rattle.rio_commands.specs.declared.formatting.FormatSizes.{FormatSizes}
 use Rattle.rio_commands.specs.Check.{Checks}
 use Rattle.rio_commands.specs.Format.{Formats, disk_bytes, format_sizes, image_bytes, root_state}
 use Rattle.rio_commands.specs.Outside.{Benched, HostRose, Outside, SinkRose}
 use Rattle.rio_commands.specs.Registry.{Lists}
 use Rattle.rio_commands.specs.Serve.{ServeRuns}
+use Rattle.boots.specs.declared.transcript.Transcript.{Transcript}
+use Rattle.boots.specs.Plans.{plan_of}
+use Rattle.boots.specs.Told.{LacksMemory, Tells}
+use Rattle.boots.specs.Legal.{Legal}
+
+-- ---- a run of a drill
+
+-- the drill of these numbers was run and told, or there was no memory
+abbrev pub Drills : (seed boots requests status : ℕ) (rose : Type 0) (written written_after : Option (List ℕ)) → Type 0
+Drills seed boots requests status rose written written_after =
+    ((t : Transcript) × Legal (plan_of seed boots requests) t × Tells status rose t written written_after)
+    ⊎ LacksMemory status rose written written_after
 
 -- ---- the words
 

@@ -1,8 +1,8 @@
 //! The command `drill`: boots drawn from a seed, run in memory alone.
 
 ghost use Rattle.std.specs.Prelude.{◌≡◌, ◌<◌, ◌≤◌, ◌^◌, IfOk};
-ghost use Rattle.rio_base.specs.Counts.{Rose};
-ghost use Rattle.rio_server.specs.Drills.{Drills};
+ghost use Rattle.rio_base.specs.Failures.{Rose};
+ghost use Rattle.rio_server.specs.Commands.{Drills};
 ghost use Rattle.boots.specs.Plans.{plan_of};
 ghost use Rattle.boots.specs.Summaries.{reply_count};
 ghost use Rattle.boots.specs.Legal.{Legal};

@@ -1,7 +1,7 @@
 //! Whole runs of the program.
 
 ghost use Rattle.std.specs.Prelude.{◌≡◌, ◌<◌, ◌≤◌, ◌^◌, ◌⊎◌, ℕ, List, Option, Some, None, length};
-ghost use Rattle.rio_base.specs.Counts.{Rose};
+ghost use Rattle.rio_base.specs.Failures.{Rose};
 ghost use Rattle.rio_words.specs.Tokens.{Text};
 ghost use Rattle.rio_words.specs.Words.{Reads, texts_of};
 ghost use Rattle.rio_words.specs.declared.command.RioCommand.TheVariants.{Check, Drill, Format, Registry, Serve};

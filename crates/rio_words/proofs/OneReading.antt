@@ -3,10 +3,9 @@ use Rattle.std.proofs.Common.{◌≡◌, ◌∙◌, ℕ, sym, subst, List, [], d
 use Rattle.std.specs.Prelude.{String}
 use Rattle.std.specs.Global.{Global}
 use Rattle.rio_words.specs.Clap.{Sorts}
-use Rattle.rio_words.specs.Files.{IsFile}
+use Rattle.rio_words.specs.Words.{IsFile, IsOnlyReading, IsReading, Reads, drill_keys, format_keys, serve_keys, texts_of}
 use Rattle.rio_words.specs.Plans.{ArePlanned}
 use Rattle.rio_words.specs.Tokens.{Text}
-use Rattle.rio_words.specs.Words.{IsOnlyReading, IsReading, Reads, drill_keys, format_keys, serve_keys, texts_of}
 use Rattle.rio_words.specs.declared.command.RioCommand.{RioCommand}
 use Rattle.rio_words.specs.declared.command.RioCommand.TheVariants.{Format, Serve, Registry, Check, Drill}
 use Rattle.rio_words.specs.declared.fail.WordsFail.{WordsFail}

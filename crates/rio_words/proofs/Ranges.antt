@@ -1,7 +1,7 @@
 -- Numbers that options have, and their ranges.
 use Rattle.std.proofs.Common.{◌≡◌, ◌≢◌, ◌∙◌, ◌≤◌, ◌+◌, ◌/◌, ◌%◌, ℕ, refl, sym, ap, subst, arith, codes, Option, None, Some, inl}
 use Rattle.rio_base.proofs.DecimalDigits.{one_number}
-use Rattle.rio_base.specs.Numbers.{IsNumber}
+use Rattle.rio_base.specs.Bytes.{IsNumber}
 use Rattle.rio_words.specs.Tokens.{Text}
 use Rattle.rio_words.specs.Words.{HasDrill, HasNumber, HasSizes, MayHaveNumber, most_boots}
 

@@ -8,12 +8,11 @@ use Rattle.std.specs.Str.{bytes_eq}
 use Rattle.std.specs.Str.Parse.{AllDigits}
 use Rattle.std.proofs.lemmas.Slice.Eq.{bytes_eq-Decides}
 use Rattle.rio_base.proofs.DecimalDigits.{number_digits, number_some}
-use Rattle.rio_base.specs.Numbers.{IsNumber}
+use Rattle.rio_base.specs.Bytes.{IsNumber}
 use Rattle.rio_words.specs.Clap.{IsMatched, Sorts}
-use Rattle.rio_words.specs.Files.{AreFiles, IsFile}
+use Rattle.rio_words.specs.Words.{AreFiles, Begins, HasDrill, HasNumber, HasSizes, IsFile, IsFileName, IsLine, IsReading, MayHaveNumber, Options, Reads, drill_keys, format_keys, given_by, serve_keys, texts_of}
 use Rattle.rio_words.specs.Plans.{AreNoFlags, ArePlanned, Finds, Gives}
 use Rattle.rio_words.specs.Tokens.{AreTokens, Text, are_different, is_among, keys_of, value_of}
-use Rattle.rio_words.specs.Words.{Begins, HasDrill, HasNumber, HasSizes, IsFileName, IsLine, IsReading, MayHaveNumber, Options, Reads, drill_keys, format_keys, given_by, serve_keys, texts_of}
 use Rattle.rio_words.specs.declared.command.RioCommand.{RioCommand}
 use Rattle.rio_words.specs.declared.command.RioCommand.TheVariants.{Format, Serve, Registry, Check, Drill}
 use Rattle.rio_words.specs.declared.fail.WordsFail.{WordsFail}

@@ -1,5 +1,4 @@
 pub mod Clap
-pub mod Files
 pub mod Matched
 pub mod Plans
 pub mod Tokens

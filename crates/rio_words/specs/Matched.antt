@@ -1,8 +1,7 @@
 -- The command that is found for words, where `found` is what stands for each key and each file.
 use Rattle.std.specs.Prelude.{Option, Result, Ok, Err, codes, ⊤}
-use Rattle.rio_words.specs.Files.{AreFiles, IsFile}
+use Rattle.rio_words.specs.Words.{AreFiles, HasDrill, HasSizes, IsFile, MayHaveNumber}
 use Rattle.rio_words.specs.Tokens.{Text}
-use Rattle.rio_words.specs.Words.{HasDrill, HasSizes, MayHaveNumber}
 use Rattle.rio_words.specs.declared.command.RioCommand.{RioCommand}
 use Rattle.rio_words.specs.declared.command.RioCommand.TheVariants.{Format, Serve, Registry, Check, Drill}
 use Rattle.rio_words.specs.declared.fail.WordsFail.{WordsFail}

@@ -1,10 +1,10 @@
--- Words that are a command.
+-- Words that are a command, and the files that they name.
 use Rattle.std.specs.Prelude.{◌≡◌, ◌≢◌, ◌≤◌, ℕ, List, [], ◌∷◌, All, codes, true, map, slice_index, Option, Some, None, Result, Ok, Err, IfOk, String}
 use Rattle.std.specs.Global.{Global}
 use Rattle.std.specs.List.{list_all}
 use Rattle.std.specs.String.{string_bytes}
 use Rattle.rio_base.specs.Image.{AreImageSizes}
-use Rattle.rio_base.specs.Numbers.{IsNumber}
+use Rattle.rio_base.specs.Bytes.{IsNumber}
 use Rattle.rio_base.specs.Shapes.{IsServed}
 use Rattle.rio_words.specs.Tokens.{AreTokens, Text, are_different, is_among, keys_of, value_of}
 use Rattle.rio_words.specs.declared.command.RioCommand.{RioCommand}
@@ -109,3 +109,14 @@ texts_of words = map string_bytes words
 -- the words begin with this command
 abbrev pub Begins : Text → List Text → Type 0
 Begins command words = (rest : List Text) × (words ≡ command ∷ rest)
+
+-- ---- the files, where `found` is what stands for each argument
+
+pub record IsFile (found : Text → Option Text) (argument name : Text) : Type 0 where
+  pub given : found argument ≡ Some name
+  pub named : IsFileName name
+
+pub record AreFiles (found : Text → Option Text) (image disk : Text) : Type 0 where
+  pub image_is : IsFile found (codes "image") image
+  pub disk_is : IsFile found (codes "disk") disk
+  pub two : image ≢ disk

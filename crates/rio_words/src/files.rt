@@ -2,7 +2,7 @@
 
 ghost use Rattle.std.specs.Prelude.{◌≡◌, ◌≢◌, ℕ, List, MatchOption, Some, codes};
 ghost use Rattle.rio_words.specs.Clap.{found_in};
-ghost use Rattle.rio_words.specs.Files.{AreFiles, IsFile};
+ghost use Rattle.rio_words.specs.Words.{AreFiles, IsFile};
 
 use crate::file_name::is_file_name;
 use clap::ArgMatches;

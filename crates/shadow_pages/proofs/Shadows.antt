@@ -11,8 +11,7 @@ use Rattle.rio_model.proofs.CoverChanges.{found_kept, frame_word_one, page_word_
 use Rattle.rio_model.proofs.CoverLookups.{behind_one, entry_one, frames_one, header_one, tag_one}
 use Rattle.rio_model.specs.CoverLookups.{cover_same}
 use Rattle.rio_model.proofs.CoverSteps.{coherent_one, disk_same, firm_by, pending_same}
-use Rattle.rio_model.specs.Registry.{IsValid, OneEntry, file_at, frames_of, gate_of, index_at, is_data, is_dirty, is_valid, page_of_entry, shadow_at, size_at, tag_at, tag_block}
-use Rattle.rio_model.specs.RegistryRules.{EntryKeeps}
+use Rattle.rio_model.specs.Registry.{EntryKeeps, IsValid, OneEntry, file_at, frames_of, gate_of, index_at, is_data, is_dirty, is_valid, page_of_entry, shadow_at, size_at, tag_at, tag_block}
 use Rattle.rio_model.proofs.RegistryRules.{entry_keeps, registry_one}
 use Rattle.registry.specs.Entries.{entry_of}
 use Rattle.registry.specs.declared.entry.Entry.{Entry}

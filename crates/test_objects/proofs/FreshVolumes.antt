@@ -17,10 +17,9 @@ use Rattle.test_objects.specs.ListVolumes.{IsNew, IsRestarted, flat, list_kept, 
 use Rattle.rio_base.specs.Rules.{true_false}
 use Rattle.rio_base.specs.Shapes.{HasShape, IsShape, more_bitmap, reserved}
 use Rattle.rio_base.specs.Volume.{CachesStored, Firm, put, put_run, widened}
-use Rattle.rio_model.specs.Fresh.{fresh_state}
+use Rattle.rio_model.specs.Fresh.{IsFreshVolume, fresh_state}
 use Rattle.rio_model.specs.Placed.{volume_layout}
 use Rattle.rio_model.specs.VolumeReady.{Firmly, Ready, StandsReady}
-use Rattle.rio_model.specs.FreshVolume.{IsFreshVolume}
 use Rattle.rio_model.specs.VolumeReads.{ReadsAs}
 use Rattle.rio_model.specs.VolumeRules.{IsMapped, bitmap_bits}
 use Rattle.rio_model.proofs.WordRules.{put_beside, put_here, put_other, run_same_but}

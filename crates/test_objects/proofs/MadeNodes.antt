@@ -17,8 +17,7 @@ use Rattle.rio_base.specs.Volume.{Firm}
 use Rattle.inode_table.specs.declared.inode.Inode.{Inode}
 use Rattle.inode_table.proofs.InodeRules.{stored_kind, word_of_words}
 use Rattle.inode_table.specs.Inodes.{inode_words}
-use Rattle.rio_model.specs.Held.{Held, held, held_of, nothing}
-use Rattle.rio_model.specs.HeldRules.{held_ino}
+use Rattle.rio_model.specs.Held.{Held, held, held_ino, held_of, nothing}
 use Rattle.rio_model.proofs.NodeChangeRules.{held_here, held_there, mapped_replaced}
 use Rattle.rio_model.specs.NodeChanges.{Change}
 use Rattle.rio_model.specs.Placed.{Slot, AtPage, AtTable, Placed, HasSlot, placed_at, volume_layout}

@@ -1,4 +1,3 @@
-pub mod CallCounts
 pub mod Covers
 pub mod FaultyRegions
 pub mod FaultyVolumes

@@ -1,10 +1,9 @@
 //! Which calls of an object in memory are to fail, for tests.
 
 ghost use Rattle.std.specs.Prelude.{◌≡◌, ◌<◌, [], ◌∷◌, ◌++◌, OnErr, OnOk};
-ghost use Rattle.rio_base.specs.Counts.{HasCause};
+ghost use Rattle.rio_base.specs.Failures.{FailsIf, HasCause, is_due};
 ghost use Rattle.rio_base.specs.Disks.{raised};
-ghost use Rattle.rio_base.specs.FailingCalls.{FailsIf, is_due};
-ghost use Rattle.test_objects.specs.CallCounts.{counted};
+ghost use Rattle.test_objects.specs.MemStreams.{counted};
 
 use rio_base::Failed;
 use std::alloc::{AllocError, Global};

@@ -4,10 +4,9 @@ ghost use Rattle.std.specs.Prelude.{◌≡◌, ◌<◌, ◌≤◌, ◌⊎◌, �
 ghost use Rattle.std.specs.Option.{option_map};
 ghost use Rattle.std.specs.String.{string_bytes};
 ghost use Rattle.std.specs.FinMap.{empty, get, insert, remove as without};
-ghost use Rattle.rio_base.specs.Counts.{Rose};
+ghost use Rattle.rio_base.specs.Failures.{FailsIf, Rose, is_due};
 ghost use Rattle.rio_base.specs.Disks.{raised};
-ghost use Rattle.rio_base.specs.FailingCalls.{FailsIf, is_due};
-ghost use Rattle.test_objects.specs.CallCounts.{faults_after};
+ghost use Rattle.test_objects.specs.MemStreams.{faults_after};
 ghost use Rattle.rio_base.specs.Hosts.{EndsBy, HasBytes, Overwrites, overwritten};
 ghost use Rattle.test_objects.specs.MemHosts.{IsFirst, Lacks, files_of};
 

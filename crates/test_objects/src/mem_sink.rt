@@ -2,8 +2,8 @@
 
 ghost use Rattle.std.specs.Prelude.{◌≡◌, ◌<◌, [], ◌∷◌, ◌++◌, false, IfOk, OnOk, OnErr, length};
 ghost use Rattle.rio_base.specs.Disks.{raised};
-ghost use Rattle.rio_base.specs.FailingCalls.{is_due};
-ghost use Rattle.test_objects.specs.CallCounts.{faults_after};
+ghost use Rattle.rio_base.specs.Failures.{is_due};
+ghost use Rattle.test_objects.specs.MemStreams.{faults_after};
 
 use crate::failing_calls::FailingCalls;
 use rio_base::{Failed, Sink};

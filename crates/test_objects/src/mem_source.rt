@@ -2,8 +2,8 @@
 
 ghost use Rattle.std.specs.Prelude.{◌≡◌, ◌<◌, ◌≤◌, ℕ, [], ◌∷◌, ◌++◌, Ok, IfOk, OnOk, OnErr, length, min, take};
 ghost use Rattle.rio_base.specs.Disks.{raised};
-ghost use Rattle.rio_base.specs.FailingCalls.{FailsIf, is_due};
-ghost use Rattle.test_objects.specs.CallCounts.{faults_after};
+ghost use Rattle.rio_base.specs.Failures.{FailsIf, is_due};
+ghost use Rattle.test_objects.specs.MemStreams.{faults_after};
 ghost use Rattle.rio_base.specs.Streams.{prepended, IsSpent};
 
 use crate::failing_calls::FailingCalls;

@@ -11,8 +11,7 @@ use Rattle.rio_base.specs.Layout.{inode_kind}
 use Rattle.rio_base.specs.Machine.{Contents, Running}
 use Rattle.rio_base.specs.Rules.{true_false}
 use Rattle.rio_base.specs.Volume.{Kept}
-use Rattle.rio_model.specs.Fresh.{fresh_state}
-use Rattle.rio_model.specs.FreshVolume.{IsFreshVolume}
+use Rattle.rio_model.specs.Fresh.{IsFreshVolume, fresh_state}
 use Rattle.rio_model.specs.Held.{held, held_of, nothing}
 use Rattle.rio_model.specs.Placed.{placed_at}
 use Rattle.rio_model.specs.Registry.{frames_of}

@@ -15,7 +15,7 @@ use Rattle.rio_base.specs.Rules.{true_false}
 use Rattle.rio_base.specs.Shapes.{IsServed, more_bitmap, reserved}
 use Rattle.rio_model.specs.Cover.{home_word}
 use Rattle.rio_model.proofs.CoverSteps.{none_pending}
-use Rattle.rio_model.specs.FreshVolume.{IsFreshVolume}
+use Rattle.rio_model.specs.Fresh.{IsFreshVolume}
 use Rattle.rio_model.specs.VolumeRules.{bitmap_bits}
 use Rattle.rio_model.proofs.WordRules.{differs}
 use Rattle.image_codec.specs.Volume.{block_words, fresh_volume_word, fresh_volume_words}

@@ -6,7 +6,7 @@ use Rattle.rio_base.specs.Image.{image_pages, registry_pages}
 use Rattle.rio_base.specs.Machine.{Contents, Running}
 use Rattle.rio_base.specs.Volume.{Below}
 use Rattle.rio_model.specs.Cover.{Coherent, home_word}
-use Rattle.rio_model.specs.FreshVolume.{IsFreshVolume}
+use Rattle.rio_model.specs.Fresh.{IsFreshVolume}
 use Rattle.rio_model.specs.Registry.{frames_of, gate_of, tag_at}
 
 -- the blocks of a disk are a fresh volume of this shape, and none is pending

@@ -3,7 +3,7 @@ use Rattle.std.proofs.Common.{◌≡◌, ℕ, ◌+◌, ◌-◌, ◌*◌, ◌<◌
 use Rattle.rio_base.specs.Regions.{RegionContent}
 use Rattle.rio_model.specs.Undo.{UndoRecord, taken, undo_word, undo_words, undo_records, IsRecord, places, IsRegion}
 use Rattle.rio_model.proofs.UndoRules.{links_head}
-use Rattle.undo_list.specs.Chains.{IsChain, IsNewest}
+use Rattle.undo_list.specs.Records.{IsChain, IsNewest}
 use Rattle.undo_list.proofs.ChainsLaws.{ChainHead}
 use Rattle.undo_list.specs.declared.records.SavedAt.{SavedAt}
 

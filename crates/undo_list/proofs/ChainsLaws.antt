@@ -2,7 +2,7 @@
 use Rattle.std.specs.Prelude.{◌≡◌, ℕ, suc, ◌+◌, ◌≤◌, List, ◌∷◌, length}
 use Rattle.rio_base.specs.Regions.{RegionContent}
 use Rattle.rio_model.specs.Undo.{UndoRecord, IsRecord, places, taken, undo_word, undo_words}
-use Rattle.undo_list.specs.Chains.{IsChain}
+use Rattle.undo_list.specs.Records.{IsChain}
 
 -- the newest of some records
 pub record ChainHead (f : RegionContent) (head : ℕ) (rs : List UndoRecord) : Type 0 where

@@ -2,7 +2,7 @@
 use Rattle.std.proofs.Common.{◌≡◌, ℕ, ◌+◌, ◌-◌, ◌<◌, ◌≤◌, List, ap, ◌∙◌, arith, inl, inr, ◌⊎◌}
 use Rattle.std.proofs.lemmas.Bool.Decides.{nat_tests}
 use Rattle.rio_base.specs.Regions.{AreWords, OldOrPutWords, RegionContent, put_words}
-use Rattle.undo_list.specs.Copies.{Apart, CopiedFront, copied}
+use Rattle.undo_list.specs.Stages.{Apart, CopiedFront, copied}
 
 -- a copy behind what was copied
 pub copied_on : (f m : RegionContent) (from to n k j : ℕ) → Apart from to n → k + j ≤ n → m ≡ copied f from to k → copied m (from + k) (to + k) j ≡ copied f from to (k + j)

@@ -10,7 +10,7 @@ use Rattle.rio_model.specs.Undo.{UndoRecord, CoversAll, is_covered, undo_records
 use Rattle.rio_model.proofs.UndoRules.{covered_by, covered_else}
 use Rattle.undo_list.specs.declared.covering.Span.{Span}
 use Rattle.undo_list.specs.declared.records.SavedAt.{SavedAt}
-use Rattle.undo_list.specs.Chains.{Awaits}
+use Rattle.undo_list.specs.Records.{Awaits}
 use Rattle.undo_list.proofs.Chains.{NewestFits}
 
 -- of some places those outside what is left are covered, as these records tell. Inside, the rest of them tell of each place

@@ -7,8 +7,7 @@ use Rattle.rio_base.specs.Rules.{true_false}
 use Rattle.rio_base.specs.Regions.{AreWords, RegionContent, put_word, put_words, OldOrPutWord, OldOrPutWords}
 use Rattle.rio_model.specs.Undo.{UndoRecord, taken, undo_word, undo_words, undo_records, is_covered, IsRecord, places, live, map_from, saving, IsRegion, SameSizes, Rests, Gains, Undoes, Dropped, Puts, CoversAll}
 use Rattle.rio_model.proofs.UndoRules.{Saves, keeps_refl, rests_refl, rests_undoes, gains_undoes, undoes_trans, sizes_trans, head_sizes, head_live, gains_by, region_same, covered_keeps, covered_by, newest_dropped, dropped_by, puts_covered}
-use Rattle.undo_list.specs.Copies.{CopiedFront, copied}
-use Rattle.undo_list.specs.Stages.{Off, Staged, PutsFront}
+use Rattle.undo_list.specs.Stages.{CopiedFront, copied, Off, Staged, PutsFront}
 use Rattle.undo_list.specs.declared.records.SavedAt.{SavedAt}
 use Rattle.undo_list.proofs.Chains.{NewestFits}
 

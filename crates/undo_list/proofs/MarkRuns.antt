@@ -3,8 +3,7 @@ use Rattle.std.proofs.Common.{◌≡◌, ◌≢◌, ℕ, zero, suc, ◌+◌, ◌
 use Rattle.std.specs.Int.{bit_at}
 use Rattle.std.proofs.lemmas.Bool.{cases_eq}
 use Rattle.std.proofs.lemmas.Nat.Bits.{bit_at-lt, bit_at-zero}
-use Rattle.undo_list.specs.Bits.{IsOnes, WithBits}
-use Rattle.undo_list.specs.Marks.{IsUnmarkedFrom, MarksRun, mark_of}
+use Rattle.undo_list.specs.Bits.{IsOnes, IsUnmarkedFrom, MarksRun, WithBits, mark_of}
 
 -- one word more
 pub run_more : (old marks : List ℕ) (from next run word : ℕ) → next % 64 + run ≤ 64 → from ≤ next → next / 64 < length marks → MarksRun old marks from next → WithBits (slice_index marks (next / 64)) word (next % 64) (next % 64 + run) 1 → MarksRun old (slice_set marks (next / 64) word) from (next + run)

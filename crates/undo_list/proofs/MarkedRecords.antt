@@ -6,8 +6,8 @@ use Rattle.rio_model.specs.Undo.{UndoRecord, CoversAll, is_covered, places}
 use Rattle.rio_model.proofs.UndoRules.{covered_by, covered_else}
 use Rattle.undo_list.specs.declared.covering.Span.{Span}
 use Rattle.undo_list.specs.declared.records.SavedAt.{SavedAt}
-use Rattle.undo_list.specs.Chains.{IsChain, MarksRecord}
-use Rattle.undo_list.specs.Marks.{IsUnmarkedFrom, mark_of}
+use Rattle.undo_list.specs.Records.{IsChain, MarksRecord}
+use Rattle.undo_list.specs.Bits.{IsUnmarkedFrom, mark_of}
 use Rattle.undo_list.proofs.Chains.{NewestFits}
 use Rattle.undo_list.proofs.MarkRuns.{mark_either}
 

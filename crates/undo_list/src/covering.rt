@@ -4,8 +4,8 @@ ghost use Rattle.std.specs.Prelude.{◌≡◌, ℕ, ◌+◌, ◌-◌, ◌*◌, �
 ghost use Rattle.rio_base.specs.Blocks.{Ends};
 ghost use Rattle.rio_base.specs.Regions.{Stays};
 ghost use Rattle.rio_model.specs.Undo.{CoversAll, IsRegion, places, undo_records};
-ghost use Rattle.undo_list.specs.Chains.{Awaits, MarksRecord};
-ghost use Rattle.undo_list.specs.Marks.{mark_of};
+ghost use Rattle.undo_list.specs.Records.{Awaits, MarksRecord};
+ghost use Rattle.undo_list.specs.Bits.{mark_of};
 
 use crate::marks::{mark, unmarked_from};
 use crate::records::{SavedAt, record_at};

@@ -1,7 +1,7 @@
 //! Marks of numbers that count from 0: a bit for each, 64 to a word.
 
 ghost use Rattle.std.specs.Prelude.{◌≡◌, ◌+◌, ◌*◌, ◌<◌, ◌≤◌, length};
-ghost use Rattle.undo_list.specs.Marks.{IsUnmarkedFrom, MarksRun, mark_of};
+ghost use Rattle.undo_list.specs.Bits.{IsUnmarkedFrom, MarksRun, mark_of};
 
 use crate::bits::{ones_from, with_bits};
 

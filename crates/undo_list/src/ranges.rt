@@ -4,7 +4,7 @@ ghost use Rattle.std.specs.Prelude.{◌≡◌, ℕ, ◌+◌, ◌*◌, ◌<◌, �
 ghost use Rattle.rio_base.specs.Blocks.{Ends, EndsBy};
 ghost use Rattle.rio_base.specs.Regions.{Stays};
 ghost use Rattle.rio_model.specs.Undo.{Gains, IsRegion, Rests, Undoes, live, places, taken, undo_records, undo_words};
-ghost use Rattle.undo_list.specs.Headers.{IsHeader};
+ghost use Rattle.undo_list.specs.Records.{IsHeader};
 ghost use Rattle.undo_list.specs.Stages.{Off, Staged};
 
 use crate::failures::{UndoFail, uncounted};

@@ -3,7 +3,7 @@
 ghost use Rattle.std.specs.Prelude.{◌≡◌, ◌+◌, ◌<◌, ◌≤◌, OnOk, length};
 ghost use Rattle.rio_base.specs.Blocks.{Ends};
 ghost use Rattle.rio_base.specs.Regions.{Stays};
-ghost use Rattle.undo_list.specs.Copies.{Apart, CopiedFront, copied};
+ghost use Rattle.undo_list.specs.Stages.{Apart, CopiedFront, copied};
 
 use crate::failures::uncounted;
 use rio_base::{RegionWords, VolFail};

@@ -14,7 +14,7 @@ use Rattle.rio_model.specs.Censuses.{HasOwners, OwnerIs}
 use Rattle.rio_model.specs.VolumeRules.{MarkRule, NumberRule, ReservedRule, bitmap_bits}
 use Rattle.volume_check.specs.Bitmap.{HasBitmap, held_bit}
 use Rattle.volume_check.specs.Claims.{is_owned}
-use Rattle.volume_check.specs.NodeWords.{PushesBlock}
+use Rattle.volume_check.specs.NodeBlocks.{PushesBlock}
 use Rattle.volume_check.specs.declared.bitmap.Bitmap.{Bitmap}
 
 -- ---- version 1 has one block of bits

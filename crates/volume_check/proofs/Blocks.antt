@@ -1,6 +1,6 @@
 -- Words read from blocks, one block after the other, and the inodes of a volume in them.
 use Rattle.volume_check.proofs.Common.{List, [], ap, arith, inl, inr, length, slice_index, sym, cases_lt, ℕ, ◌%◌, ◌*◌, ◌++◌, ◌+◌, ◌-◌, ◌/◌, ◌<◌, ◌∙◌, ◌≡◌, ◌≤◌, get_or-append-add, get_or_append_left, length-append, BlockWords, IsIno, IsRun, inode_word, VolumeShape}
-use Rattle.volume_check.specs.NodeWords.{PushesBlock}
+use Rattle.volume_check.specs.NodeBlocks.{PushesBlock}
 
 -- k blocks were read, block `at 0` first
 pub record HasBlocks (f : BlockWords) (at : ℕ → ℕ) (k : ℕ) (words : List ℕ) : Type 0 where

@@ -5,7 +5,7 @@ use Rattle.rio_model.specs.VolumeFails.{FailsHeld, FailsVolume, SaysShape}
 use Rattle.rio_model.specs.VolumeRules.{IsMapped, KindRule, MarkRule, NumberRule, OnceRule, ReservedRule, SizeRule}
 use Rattle.volume_check.specs.Bitmap.{HasBitmap, HasRead}
 use Rattle.volume_check.specs.Inodes.{HasInodes, SizesFit, layout_of, said}
-use Rattle.volume_check.specs.Numbers.{CanNumber, InRange, node_numbers, numbers}
+use Rattle.volume_check.specs.NodeBlocks.{CanNumber, InRange, node_numbers, numbers}
 use Rattle.volume_check.specs.Rules.{FailsInodes, FailsMarks, FailsNumbers, FailsOnce, FailsReserved, FailsShape}
 use Rattle.volume_check.specs.declared.bitmap.Bitmap.{Bitmap}
 use Rattle.volume_check.specs.declared.inodes.Inodes.{Inodes}

@@ -9,7 +9,7 @@ use Rattle.rio_model.specs.Censuses.{HasOwners, OwnerIs}
 use Rattle.rio_model.specs.VolumeFails.{CountsTwice, IsLeastTwice}
 use Rattle.rio_model.specs.VolumeRules.{OnceRule}
 use Rattle.volume_check.specs.Claims.{Claimed, IsAtMost, IsBefore, Notes, OwnerBy, SharedBy, is_owned, slot_at, slot_owner, slot_place}
-use Rattle.volume_check.specs.Numbers.{node_numbers, numbers}
+use Rattle.volume_check.specs.NodeBlocks.{node_numbers, numbers}
 use Rattle.volume_check.proofs.NodeNumbers.{HasPlace, as_many, number_of_block, place_stands, slot_stands}
 
 -- ---- the owner of one block

@@ -10,8 +10,7 @@ use Rattle.rio_model.specs.declared.node.Node.TheVariants.{Dir, File, Region}
 use Rattle.rio_model.specs.declared.node.RegionNode.{RegionNode}
 use Rattle.rio_model.specs.declared.state.State.{State}
 use Rattle.rio_model.specs.Censuses.{is_file, is_region, node_count}
-use Rattle.rio_model.specs.Held.{Held, held_of}
-use Rattle.rio_model.specs.HeldRules.{held_ino}
+use Rattle.rio_model.specs.Held.{Held, held_ino, held_of}
 use Rattle.rio_model.specs.Paths.{is_dir}
 use Rattle.rio_model.specs.Sizes.{blocks_for, used_blocks}
 use Rattle.rio_model.specs.VolumeReads.{ReadsAs, node_in}

@@ -1,9 +1,8 @@
 -- The first pages of a node, as its words.
 use Rattle.volume_check.proofs.Common.{List, ap, arith, cond, subst, sym, true, nat_lt, nat_tests, ℕ, ◌%◌, ◌*◌, ◌/◌, ◌<◌, ◌∙◌, ◌≡◌, BlockWords, IsIno, AtPage, Placed, VolumeShape, placed_at, volume_layout}
 use Rattle.std.specs.Prelude.{◌&&◌}
-use Rattle.rio_model.specs.Held.{Held, held, held_of, word_in}
-use Rattle.rio_model.specs.HeldRules.{held_ino}
-use Rattle.volume_check.specs.NodeWords.{HasFront}
+use Rattle.rio_model.specs.Held.{Held, held, held_ino, held_of, word_in}
+use Rattle.volume_check.specs.NodeBlocks.{HasFront}
 use Rattle.volume_check.proofs.Blocks.{HasBlocks}
 
 word_held : (f : BlockWords) (n : Placed) (y : ℕ) → 0 < n.kind → 8 * y < n.size → word_in f n y ≡ f (n.block (AtPage (y / 512))) (y % 512)

@@ -7,7 +7,7 @@ use Rattle.rio_model.specs.VolumeFails.{ApartAt, EntryAt, FailsHeld, RegionAt, T
 use Rattle.rio_model.specs.VolumeReads.{ReadsAs}
 use Rattle.rio_model.specs.VolumeRules.{EntryRule, IsMapped, NamesApartRule, RegionRule, TreeRule}
 use Rattle.rio_model.proofs.ReadStates.{HoldsWithin, reads_as_made, reads_made}
-use Rattle.volume_check.specs.FirstFails.{FailsBy}
+use Rattle.volume_check.specs.Rules.{FailsBy}
 use Rattle.volume_check.specs.Tree.{state_of}
 use Rattle.volume_check.specs.declared.failures.CheckFail.{CheckFail}
 

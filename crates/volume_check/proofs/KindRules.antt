@@ -5,7 +5,7 @@ use Rattle.rio_model.specs.VolumeRules.{KindRule, SizeFits, SizeRule}
 use Rattle.rio_model.proofs.VolumeFailRules.{kind_rule, size_rule}
 use Rattle.volume_check.specs.declared.failures.CheckFail.{CheckFail}
 use Rattle.volume_check.specs.declared.failures.CheckFail.TheVariants.{BadVolume}
-use Rattle.volume_check.specs.Failures.{Refuses}
+use Rattle.volume_check.specs.Looking.{Refuses}
 use Rattle.volume_check.specs.InodeRules.{Finds, KeepsKind, KeepsSize}
 use Rattle.volume_check.specs.Rules.{FailsInodes}
 use Rattle.volume_check.specs.Inodes.{HasInodes, layout_of, said}

@@ -2,7 +2,7 @@
 use Rattle.rio_model.proofs.Common.{ℕ, ◌+◌, ◌<◌, ◌≤◌, refl, sym, subst, arith, inl, inr, cases_eq, inode_block, BlockWords, IsIno, VolumeShape}
 use Rattle.rio_base.specs.Blocks.{Looks, Seen}
 use Rattle.rio_model.specs.VolumeRules.{IsMapped}
-use Rattle.volume_check.specs.FirstFails.{FailsBy}
+use Rattle.volume_check.specs.Rules.{FailsBy}
 
 -- ---- what a look leaves
 

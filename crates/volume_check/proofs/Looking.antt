@@ -8,9 +8,8 @@ use Rattle.rio_base.specs.Blocks.{CanName, Ends, EndsBy, Health, Looks, Seen}
 use Rattle.rio_base.proofs.Rules.{ends_by, ends_by_after, ends_by_as, ends_by_well, looks_refl, looks_trans}
 use Rattle.volume_check.specs.declared.failures.CheckFail.{CheckFail}
 use Rattle.volume_check.specs.declared.failures.CheckFail.TheVariants.{BadVolume, Fault, Stopped, Memory}
-use Rattle.volume_check.specs.Failures.{Refuses, handed}
+use Rattle.volume_check.specs.Looking.{CanLook, Looked, Refuses, handed}
 use Rattle.volume_check.specs.InodeRules.{TellsRule}
-use Rattle.volume_check.specs.Looking.{CanLook, Looked}
 
 -- ---- how a look ends
 

@@ -3,7 +3,7 @@ use Rattle.volume_check.proofs.Common.{Bool, true, false, List, [], ap, arith, c
 use Rattle.rio_model.specs.Placed.{number_at}
 use Rattle.volume_check.specs.Claims.{slot_at, slot_place}
 use Rattle.volume_check.specs.Inodes.{HasInodes, layout_of, said}
-use Rattle.volume_check.specs.Numbers.{InRange, node_numbers, numbers, page_numbers}
+use Rattle.volume_check.specs.NodeBlocks.{InRange, node_numbers, numbers, page_numbers}
 use Rattle.volume_check.specs.declared.inodes.Inodes.{Inodes}
 
 -- ---- where they stand

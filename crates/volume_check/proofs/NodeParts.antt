@@ -3,13 +3,12 @@ use Rattle.rio_model.proofs.Common.{◌≡◌, ℕ, ◌*◌, ◌/◌, ◌%◌, �
 use Rattle.std.proofs.Common.{take}
 use Rattle.std.proofs.lemmas.List.{get_or-take, length-take-le}
 use Rattle.rio_base.specs.Blocks.{Seen}
-use Rattle.rio_model.specs.Held.{Held, held_of}
-use Rattle.rio_model.specs.HeldRules.{held_ino}
+use Rattle.rio_model.specs.Held.{Held, held_ino, held_of}
 use Rattle.rio_model.specs.Sizes.{pages}
 use Rattle.rio_model.specs.VolumeRules.{SizeFits, SizeRule}
 use Rattle.volume_check.specs.Entries.{HasEntries}
 use Rattle.volume_check.specs.Inodes.{HasInodes, layout_of, said}
-use Rattle.volume_check.specs.NodeWords.{HasFront}
+use Rattle.volume_check.specs.NodeBlocks.{HasFront}
 use Rattle.volume_check.specs.RegionWords.{Begins}
 use Rattle.volume_check.specs.declared.inodes.Inodes.{Inodes}
 use Rattle.volume_check.proofs.Counts.{kind_said, size_said}

@@ -4,7 +4,7 @@ use Rattle.std.specs.Prelude.{Ok, slice_index_or}
 use Rattle.std.proofs.lemmas.Bool.{eqb-true}
 use Rattle.rio_model.specs.declared.node.Node.TheVariants.{Dir, File, Region}
 use Rattle.rio_model.specs.declared.state.State.{State}
-use Rattle.rio_model.specs.Held.{HasEntry, Held, entry_ino, entry_name, held_bytes, held_of}
+use Rattle.rio_model.specs.Held.{HasEntry, Held, entry_ino, entry_name, held_bytes, held_ino, held_of}
 use Rattle.rio_model.specs.Paths.{is_dir, walk}
 use Rattle.rio_model.specs.VolumeFails.{HasNoName, HasOneName, TreeAt}
 use Rattle.rio_model.specs.VolumeReads.{Reads, node_in, region_in}
@@ -13,12 +13,11 @@ use Rattle.rio_model.proofs.NameRules.{same_some}
 use Rattle.rio_model.proofs.VolumeReadRules.{reads_dir, reads_none}
 use Rattle.rio_model.proofs.Walks.{Up, turned, up_walk, walk_up}
 use Rattle.rio_base.specs.Blocks.{Seen}
-use Rattle.rio_model.specs.HeldRules.{held_ino}
 use Rattle.rio_model.specs.Placed.{volume_layout}
 use Rattle.rio_model.proofs.PlacedRules.{root_ino}
 use Rattle.rio_model.proofs.ReadStates.{holds_within, reads_made}
 use Rattle.rio_model.proofs.VolumeFailRules.{tree_rule}
-use Rattle.volume_check.specs.FirstFails.{FailsBy}
+use Rattle.volume_check.specs.Rules.{FailsBy}
 use Rattle.volume_check.specs.Inodes.{HasInodes, said}
 use Rattle.volume_check.specs.Tree.{CountOf, Counted, InTree, IsAllReached, Leads, Names, state_of}
 use Rattle.volume_check.specs.declared.inodes.Inodes.{Inodes}

@@ -1,14 +1,11 @@
 pub mod Bitmap
 pub mod Claims
 pub mod Entries
-pub mod Failures
-pub mod FirstFails
 pub mod InodeRules
 pub mod Inodes
 pub mod Looking
+pub mod NodeBlocks
 pub mod NodeRules
-pub mod NodeWords
-pub mod Numbers
 pub mod RegionWords
 pub mod Rules
 pub mod Tree

@@ -1,10 +1,18 @@
--- Which rule of a group fails first, and with which block.
+-- Which rule of a group fails first, with its number and with which block.
 use Rattle.std.specs.Prelude.{◌≡◌, ℕ, ◌⊎◌}
 use Rattle.rio_base.specs.declared.places.VolumeShape.{VolumeShape}
 use Rattle.rio_base.specs.Blocks.{BlockWords}
-use Rattle.rio_model.specs.Placed.{Layout}
 use Rattle.rio_model.specs.VolumeFails.{FailsFirst, IsLeastTwice, KindAt, NumberAt, SaysShape, SizeAt}
+use Rattle.rio_model.specs.Placed.{Layout}
 use Rattle.rio_model.specs.VolumeRules.{KindRule, MarkRule, ReservedRule}
+
+-- ---- a rule on inodes that fails
+
+-- this rule is told, with the block of the least inode that does not keep it
+abbrev pub FailsBy : ℕ → VolumeShape → (ℕ → Type 0) → ℕ → ℕ → Type 0
+FailsBy number shape keeps rule b = (rule ≡ number) × FailsFirst shape keeps b
+
+-- ---- the rules by their numbers
 
 -- rule 1
 abbrev pub FailsShape : BlockWords → ℕ → ℕ → ℕ → Type 0

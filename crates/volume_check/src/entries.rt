@@ -8,9 +8,8 @@ ghost use Rattle.rio_model.specs.Paths.{IsName};
 ghost use Rattle.rio_model.specs.VolumeFails.{EntryAt};
 ghost use Rattle.rio_model.specs.VolumeRules.{IsMapped};
 ghost use Rattle.volume_check.specs.Entries.{HasEntries, KeepsEntry, ino_in, kind_in, name_in};
-ghost use Rattle.volume_check.specs.Failures.{Refuses};
+ghost use Rattle.volume_check.specs.Looking.{CanLook, Looked, Refuses};
 ghost use Rattle.volume_check.specs.Inodes.{HasInodes, said};
-ghost use Rattle.volume_check.specs.Looking.{CanLook, Looked};
 
 use crate::failures::CheckFail;
 use crate::inode_rules::DIRECTORY;

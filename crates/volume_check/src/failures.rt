@@ -1,7 +1,7 @@
 //! Why there is no census of a volume.
 
 ghost use Rattle.std.specs.Prelude.{◌≡◌};
-ghost use Rattle.volume_check.specs.Failures.{handed};
+ghost use Rattle.volume_check.specs.Looking.{handed};
 
 use rio_base::{Block, VolFail};
 use std::alloc::{AllocError, AllocFailed};

@@ -6,9 +6,8 @@ ghost use Rattle.rio_model.specs.Held.{held_of};
 ghost use Rattle.rio_model.specs.VolumeFails.{FailsHeld};
 ghost use Rattle.rio_model.specs.VolumeReads.{ReadsAs};
 ghost use Rattle.rio_model.specs.VolumeRules.{IsMapped};
-ghost use Rattle.volume_check.specs.Failures.{Refuses};
+ghost use Rattle.volume_check.specs.Looking.{CanLook, Looked, Refuses};
 ghost use Rattle.volume_check.specs.Inodes.{HasInodes};
-ghost use Rattle.volume_check.specs.Looking.{CanLook, Looked};
 
 use crate::failures::CheckFail;
 use crate::inodes::Inodes;

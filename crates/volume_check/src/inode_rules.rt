@@ -4,7 +4,7 @@ ghost use Rattle.std.specs.Prelude.{◌≡◌, ◌↔◌, ◌≤◌, IsTrue, OnO
 ghost use Rattle.rio_base.specs.Blocks.{Seen};
 ghost use Rattle.rio_base.specs.Layout.{IsIno, inode_block};
 ghost use Rattle.rio_model.specs.VolumeRules.{KindRule, SizeFits, SizeRule};
-ghost use Rattle.volume_check.specs.Failures.{Refuses};
+ghost use Rattle.volume_check.specs.Looking.{Refuses};
 ghost use Rattle.volume_check.specs.Inodes.{HasInodes, layout_of};
 ghost use Rattle.volume_check.specs.InodeRules.{Finds, InodeKeeps, KeepsKind, KeepsSize, TellsRule};
 ghost use Rattle.volume_check.specs.Rules.{FailsInodes};

@@ -7,8 +7,7 @@ ghost use Rattle.rio_model.specs.Censuses.{HasOwners};
 ghost use Rattle.rio_model.specs.Placed.{volume_layout};
 ghost use Rattle.rio_model.specs.VolumeRules.{MarkRule, NumberRule, ReservedRule};
 ghost use Rattle.volume_check.specs.Bitmap.{HasBitmap, held_bit};
-ghost use Rattle.volume_check.specs.Failures.{Refuses};
-ghost use Rattle.volume_check.specs.Looking.{CanLook, Looked};
+ghost use Rattle.volume_check.specs.Looking.{CanLook, Looked, Refuses};
 
 use crate::bitmap::Bitmap;
 use crate::failures::CheckFail;

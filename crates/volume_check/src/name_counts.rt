@@ -4,9 +4,8 @@ ghost use Rattle.std.specs.Prelude.{◌≡◌, ◌+◌, ◌<◌, IfErr, IfOk, On
 ghost use Rattle.rio_base.specs.Layout.{IsIno};
 ghost use Rattle.rio_model.specs.Held.{held_of};
 ghost use Rattle.rio_model.specs.VolumeRules.{EntryRule, IsMapped};
-ghost use Rattle.volume_check.specs.Failures.{Refuses};
+ghost use Rattle.volume_check.specs.Looking.{CanLook, Looked, Refuses};
 ghost use Rattle.volume_check.specs.Inodes.{HasInodes};
-ghost use Rattle.volume_check.specs.Looking.{CanLook, Looked};
 ghost use Rattle.volume_check.specs.Tree.{Counted, one_more};
 
 use crate::entries::{ENTRY_WORDS, named_ino, read_entries};

@@ -10,9 +10,8 @@ ghost use Rattle.rio_model.specs.Held.{held_of};
 ghost use Rattle.rio_model.specs.VolumeFails.{ApartAt};
 ghost use Rattle.rio_model.specs.VolumeRules.{EntryRule, IsMapped};
 ghost use Rattle.volume_check.specs.Entries.{AllDiffer, name_in, name_words, padded};
-ghost use Rattle.volume_check.specs.Failures.{Refuses};
+ghost use Rattle.volume_check.specs.Looking.{CanLook, Looked, Refuses};
 ghost use Rattle.volume_check.specs.Inodes.{HasInodes};
-ghost use Rattle.volume_check.specs.Looking.{CanLook, Looked};
 
 use crate::entries::{ENTRY_WORDS, NAME_BYTES, name_bytes, name_length, read_entries};
 use crate::failures::CheckFail;

@@ -2,10 +2,9 @@
 
 ghost use Rattle.std.specs.Prelude.{◌≡◌, ◌↔◌, ℕ, IfErr, IfOk, IsTrue, OnOk};
 ghost use Rattle.rio_base.specs.Layout.{IsIno};
-ghost use Rattle.volume_check.specs.Failures.{Refuses};
-ghost use Rattle.volume_check.specs.FirstFails.{FailsBy};
+ghost use Rattle.volume_check.specs.Looking.{CanLook, Looked, Refuses};
+ghost use Rattle.volume_check.specs.Rules.{FailsBy};
 ghost use Rattle.volume_check.specs.Inodes.{HasInodes};
-ghost use Rattle.volume_check.specs.Looking.{CanLook, Looked};
 ghost use Rattle.volume_check.specs.NodeRules.{NodeKeeps, Supposes, node_number};
 
 use crate::entries::keeps_entries;

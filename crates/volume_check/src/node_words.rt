@@ -5,10 +5,9 @@ ghost use Rattle.rio_base.specs.Layout.{IsIno};
 ghost use Rattle.rio_model.specs.Held.{held_of};
 ghost use Rattle.rio_model.specs.Sizes.{pages};
 ghost use Rattle.rio_model.specs.VolumeRules.{NumberRule, SizeRule};
-ghost use Rattle.volume_check.specs.Failures.{Refuses};
+ghost use Rattle.volume_check.specs.Looking.{CanLook, Looked, Refuses};
 ghost use Rattle.volume_check.specs.Inodes.{HasInodes, layout_of, said};
-ghost use Rattle.volume_check.specs.Looking.{CanLook, Looked};
-ghost use Rattle.volume_check.specs.NodeWords.{HasFront};
+ghost use Rattle.volume_check.specs.NodeBlocks.{HasFront};
 
 use crate::failures::CheckFail;
 use crate::inodes::Inodes;

@@ -7,10 +7,9 @@ ghost use Rattle.rio_model.specs.Placed.{Layout};
 ghost use Rattle.rio_model.specs.Sizes.{pages};
 ghost use Rattle.rio_model.specs.VolumeRules.{NumberRule, OnceRule, SizeRule};
 ghost use Rattle.volume_check.specs.Claims.{Claimed, IsBefore, Notes, is_owned, slot_at, slot_owner};
-ghost use Rattle.volume_check.specs.Failures.{Refuses};
+ghost use Rattle.volume_check.specs.Looking.{CanLook, Looked, Refuses};
 ghost use Rattle.volume_check.specs.Inodes.{HasInodes, layout_of};
-ghost use Rattle.volume_check.specs.Looking.{CanLook, Looked};
-ghost use Rattle.volume_check.specs.Numbers.{node_numbers, numbers};
+ghost use Rattle.volume_check.specs.NodeBlocks.{node_numbers, numbers};
 ghost use Rattle.volume_check.specs.Rules.{FailsOnce};
 
 use crate::failures::CheckFail;

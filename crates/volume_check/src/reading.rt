@@ -3,10 +3,9 @@
 ghost use Rattle.std.specs.Prelude.{◌≡◌, ◌<◌, IfErr, IfOk, OnOk, length};
 ghost use Rattle.rio_base.specs.Blocks.{IsRun, IsSpan};
 ghost use Rattle.rio_base.specs.Shapes.{IsServed};
-ghost use Rattle.volume_check.specs.Failures.{Refuses};
+ghost use Rattle.volume_check.specs.Looking.{CanLook, Looked, Refuses};
 ghost use Rattle.volume_check.specs.Inodes.{HasInodes};
-ghost use Rattle.volume_check.specs.Looking.{CanLook, Looked};
-ghost use Rattle.volume_check.specs.NodeWords.{PushesBlock};
+ghost use Rattle.volume_check.specs.NodeBlocks.{PushesBlock};
 
 use crate::failures::CheckFail;
 use crate::inodes::Inodes;

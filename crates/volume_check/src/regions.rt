@@ -5,9 +5,8 @@ ghost use Rattle.rio_base.specs.Layout.{IsIno};
 ghost use Rattle.rio_model.specs.Held.{held_of};
 ghost use Rattle.rio_model.specs.VolumeFails.{RegionAt};
 ghost use Rattle.rio_model.specs.VolumeRules.{IsMapped};
-ghost use Rattle.volume_check.specs.Failures.{Refuses};
+ghost use Rattle.volume_check.specs.Looking.{CanLook, Looked, Refuses};
 ghost use Rattle.volume_check.specs.Inodes.{HasInodes};
-ghost use Rattle.volume_check.specs.Looking.{CanLook, Looked};
 
 use crate::failures::CheckFail;
 use crate::inode_rules::REGION;

@@ -5,8 +5,7 @@ ghost use Rattle.rio_base.specs.declared.places.VolumeShape.{VolumeShape};
 ghost use Rattle.rio_base.specs.Blocks.{BlockWords, IsRun};
 ghost use Rattle.rio_base.specs.Shapes.{IsServed};
 ghost use Rattle.rio_model.specs.VolumeFails.{SaysShape};
-ghost use Rattle.volume_check.specs.Failures.{Refuses};
-ghost use Rattle.volume_check.specs.Looking.{CanLook, Looked};
+ghost use Rattle.volume_check.specs.Looking.{CanLook, Looked, Refuses};
 ghost use Rattle.volume_check.specs.Rules.{FailsShape};
 
 use crate::failures::CheckFail;

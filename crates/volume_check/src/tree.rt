@@ -5,11 +5,10 @@ ghost use Rattle.rio_base.specs.Layout.{IsIno};
 ghost use Rattle.rio_model.specs.Held.{held_of};
 ghost use Rattle.rio_model.specs.VolumeFails.{TreeAt};
 ghost use Rattle.rio_model.specs.VolumeRules.{EntryRule, IsMapped, NamesApartRule, TreeRule};
-ghost use Rattle.volume_check.specs.Failures.{Refuses};
-ghost use Rattle.volume_check.specs.FirstFails.{FailsBy};
+ghost use Rattle.volume_check.specs.Looking.{CanLook, Looked, Refuses};
+ghost use Rattle.volume_check.specs.Rules.{FailsBy};
 ghost use Rattle.volume_check.specs.InodeRules.{Finds};
 ghost use Rattle.volume_check.specs.Inodes.{HasInodes, said};
-ghost use Rattle.volume_check.specs.Looking.{CanLook, Looked};
 ghost use Rattle.volume_check.specs.Tree.{InTree, state_of};
 
 use crate::failures::CheckFail;

@@ -9,9 +9,8 @@ ghost use Rattle.rio_model.specs.VolumeFails.{FailsVolume};
 ghost use Rattle.rio_model.specs.VolumeReads.{ReadsAs};
 ghost use Rattle.rio_model.specs.VolumeRules.{IsMapped};
 ghost use Rattle.volume_check.specs.Bitmap.{HasRead};
-ghost use Rattle.volume_check.specs.Failures.{Refuses};
+ghost use Rattle.volume_check.specs.Looking.{CanLook, Looked, Refuses};
 ghost use Rattle.volume_check.specs.Inodes.{layout_of};
-ghost use Rattle.volume_check.specs.Looking.{CanLook, Looked};
 
 use crate::bitmap::Bitmap;
 use crate::census::count_volume;

@@ -4,7 +4,7 @@ use Rattle.rio_model.proofs.Common.{BlockWords, IsIno, VolumeShape, ap, arith, b
 use Rattle.rio_base.specs.Bitmap.{bitmap_block}
 use Rattle.rio_base.specs.Layout.{HasSuperblock, inode_kind, inode_place}
 use Rattle.rio_base.specs.Shapes.{IsServed, more_bitmap}
-use Rattle.rio_model.specs.FreshVolume.{IsFreshVolume}
+use Rattle.rio_model.specs.Fresh.{IsFreshVolume}
 use Rattle.rio_model.specs.Placed.{volume_layout}
 use Rattle.rio_model.specs.VolumeFails.{FailsVolume, KindAt}
 use Rattle.rio_model.specs.VolumeRules.{IsMapped, bitmap_bits}

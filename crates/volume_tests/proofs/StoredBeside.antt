@@ -7,7 +7,7 @@ use Rattle.rio_base.specs.declared.places.VolumeShape.{VolumeShape}
 use Rattle.rio_base.specs.Blocks.{BlockWords}
 use Rattle.rio_base.specs.Layout.{IsIno, inode_block, inode_kind, inode_place}
 use Rattle.rio_base.specs.Volume.{put_run}
-use Rattle.inode_table.specs.Known.{StayUsed}
+use Rattle.inode_table.specs.Inodes.{StayUsed}
 
 kind_beside : (f : BlockWords) (i j : ℕ) (words : List ℕ) → 1 ≤ i → 1 ≤ j → j ≢ i → inode_kind (put_run f (inode_block i) (inode_place i) 16 words) j ≡ inode_kind f j
 kind_beside f i j words from start away = by (inode_block j == inode_block i) (λ same. beyond (inode_place i) (inode_place j + 0) (apart ((Decides-eqb (inode_block j) (inode_block i)).0 same)))

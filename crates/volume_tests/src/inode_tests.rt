@@ -4,7 +4,7 @@ ghost use Rattle.std.specs.Prelude.{◌≡◌, ◌≤◌, ◌<◌, false, IfOk, 
 ghost use Rattle.rio_base.specs.Layout.{IsIno, inode_kind};
 ghost use Rattle.test_objects.specs.ListVolumes.{ListSound, list_kept, list_seen};
 ghost use Rattle.rio_base.specs.Shapes.{HasShape};
-ghost use Rattle.inode_table.specs.Known.{KnowsFull, StayUsed};
+ghost use Rattle.inode_table.specs.Inodes.{KnowsFull, StayUsed};
 
 use crate::same::same;
 use inode_table::{

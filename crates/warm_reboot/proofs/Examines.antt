@@ -2,7 +2,7 @@
 use Rattle.page_restore.proofs.Common.{Bool, List, None, Option, Some, false, length, refl, ℕ, ◌+◌, ◌<◌, ◌≡◌, ap, arith, inl, inr, subst, sym, ◌∙◌, is_pending, slice_index, Contents, Running, frames_of, tag_at, tag_block, Restorable}
 use Rattle.std.specs.Prelude.{Result, Err, IfOk, IfErr, ◌≤◌, true}
 use Rattle.rio_base.specs.Blocks.{BlockWords, Ends}
-use Rattle.rio_base.specs.Counts.{Rose}
+use Rattle.rio_base.specs.Failures.{Rose}
 use Rattle.rio_base.specs.Image.{HasHeader, registry_pages}
 use Rattle.rio_base.specs.Rules.{true_false}
 use Rattle.rio_base.specs.Shapes.{HasShape}
@@ -34,7 +34,7 @@ use Rattle.page_restore.specs.Stale.{MarksStale}
 use Rattle.warm_reboot.specs.declared.report.BootFail.{BootFail}
 use Rattle.warm_reboot.specs.declared.report.BootFail.TheVariants.{BadImage, BadVolume, Fault, Memory, Stopped}
 use Rattle.registry.specs.Views.{view_health, view_seen}
-use Rattle.volume_check.specs.Failures.{Refuses}
+use Rattle.volume_check.specs.Looking.{Refuses}
 use Rattle.volume_check.specs.declared.failures.CheckFail.{CheckFail}
 use Rattle.volume_check.specs.declared.failures.CheckFail.TheVariants.{BadVolume as VolumeBad, Fault as CheckFault, Memory as CheckMemory, Stopped as CheckStopped}
 use Rattle.region_recovery.specs.RegionLists.{region_inos}

@@ -8,7 +8,7 @@ use Rattle.rio_base.specs.Image.{registry_pages}
 use Rattle.rio_base.specs.Volume.{Kept, Runs}
 use Rattle.rio_model.specs.declared.state.State.{State}
 use Rattle.rio_model.specs.Cover.{reads, stands}
-use Rattle.rio_model.specs.CoverStands.{stands_idle}
+use Rattle.rio_model.specs.CoverChanges.{stands_idle}
 use Rattle.rio_model.specs.Held.{held_of}
 use Rattle.rio_model.specs.Placed.{Agrees, Layout, volume_layout}
 use Rattle.rio_model.specs.Registry.{gate_of}

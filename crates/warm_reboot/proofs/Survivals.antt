@@ -2,7 +2,7 @@
 use Rattle.page_restore.proofs.Common.{Bool, Err, false, length, refl, true, ℕ, ◌≡◌, ◌≢◌, ◌≤◌, ap, arith, subst, sym, ◌∙◌, is_pending, Contents, Running, Endures, Restorable, none_apart}
 use Rattle.std.specs.Prelude.{Option, None, Some, Result, Ok, IfOk, OnOk, [], ◌==◌}
 use Rattle.rio_base.specs.Blocks.{BlockWords, Ends, Health, Home, Seen}
-use Rattle.rio_base.specs.Counts.{Rose}
+use Rattle.rio_base.specs.Failures.{Rose}
 use Rattle.rio_base.specs.declared.failures.VolFail.{VolFail}
 use Rattle.rio_base.specs.declared.failures.VolFail.TheVariants.{Fault, Stopped}
 use Rattle.rio_base.specs.declared.places.VolumeShape.{VolumeShape}
@@ -10,7 +10,7 @@ use Rattle.rio_base.specs.Volume.{Kept, Settled}
 use Rattle.rio_base.proofs.Rules.{rose_later}
 use Rattle.rio_model.specs.declared.state.State.{State}
 use Rattle.rio_model.specs.Cover.{home_of, reads}
-use Rattle.rio_model.specs.CoverStands.{stands_idle}
+use Rattle.rio_model.specs.CoverChanges.{stands_idle}
 use Rattle.rio_model.specs.Registry.{gate_of}
 use Rattle.rio_model.specs.Standing.{Sound, StandsFor}
 use Rattle.rio_model.specs.VolumeReads.{ReadsAs}

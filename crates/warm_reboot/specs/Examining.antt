@@ -1,6 +1,6 @@
 -- What an examination of memory and disk finds, and why there is none. Nothing is stored by it.
 use Rattle.std.specs.Prelude.{◌≡◌, ℕ, true, List, length, min, Option, None, Some}
-use Rattle.rio_base.specs.Counts.{Rose}
+use Rattle.rio_base.specs.Failures.{Rose}
 use Rattle.rio_base.specs.declared.places.Block.{Block}
 use Rattle.rio_base.specs.declared.places.VolumeShape.{VolumeShape}
 use Rattle.rio_base.specs.declared.failures.VolFail.{VolFail}

@@ -1,3 +1,2 @@
-pub mod Boots
 pub mod Draws
 pub mod Requests

@@ -1,7 +1,7 @@
 //! How a boot of a drill ends.
 
 ghost use Rattle.std.specs.Prelude.{◌≡◌};
-ghost use Rattle.work_gen.specs.Boots.{boot, choice_of};
+ghost use Rattle.work_gen.specs.Draws.{boot, choice_of};
 
 use crate::generator::Gen;
 use block_disk::DiskChoice;

@@ -2,8 +2,7 @@
 
 ghost use Rattle.std.specs.Prelude.{◌≡◌, ◌<◌, IfErr, IfOk};
 ghost use Rattle.rio_requests.specs.Requests.{IsRequest};
-ghost use Rattle.work_gen.specs.Boots.{boot};
-ghost use Rattle.work_gen.specs.Draws.{draw};
+ghost use Rattle.work_gen.specs.Draws.{boot, draw};
 ghost use Rattle.work_gen.specs.Requests.{request};
 
 use crate::boot_draw::{BootDraw, drawn_boot};

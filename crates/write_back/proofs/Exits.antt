@@ -3,9 +3,8 @@ use Rattle.std.specs.Prelude.{◌≡◌, ℕ, ◌≤◌, ◌&&◌, Bool, true, f
 use Rattle.std.proofs.Common.{◌∙◌, ap, sym, subst, arith, refl}
 use Rattle.std.proofs.lemmas.Result.{IfOk-from_err, MatchResult-from_err}
 use Rattle.rio_base.proofs.Rules.{rose_later}
-use Rattle.rio_base.specs.Counts.{Rose}
+use Rattle.rio_base.specs.Failures.{Rose, vol_fail}
 use Rattle.rio_base.specs.Disks.{raised}
-use Rattle.rio_base.specs.Failures.{vol_fail}
 use Rattle.rio_base.specs.Machine.{Contents, Running, StepEnds}
 use Rattle.rio_base.specs.declared.failures.DiskFail.{DiskFail}
 use Rattle.rio_base.specs.declared.failures.DiskFail.TheVariants.{Fault as DiskFault, Stopped as DiskStopped}
@@ -14,8 +13,7 @@ use Rattle.rio_base.specs.declared.failures.VolFail.TheVariants.{Fault, Stopped}
 use Rattle.rio_model.specs.Cover.{HeldEntry, IsCleaned, Narrows, OnDisk}
 use Rattle.rio_model.proofs.HeldEntries.{held_same, narrows_by}
 use Rattle.rio_model.specs.Registry.{BlockRule, OneEntry, frames_of, is_dirty, is_valid, tag_at}
-use Rattle.write_back.specs.Flushing.{CleanedFirst, needs_write}
-use Rattle.write_back.specs.Writing.{SameDisk}
+use Rattle.write_back.specs.Flushing.{CleanedFirst, SameDisk, needs_write}
 
 -- ---- errors
 

@@ -1,11 +1,21 @@
--- What a flush does: the first dirty entries become clean, and nothing is pending.
+-- What a flush does: the first dirty entries become clean, and nothing is pending. And calls that leave the disk as it is.
 use Rattle.std.specs.Prelude.{◌≡◌, ◌≢◌, ℕ, ◌<◌, ◌&&◌, min, Bool, false, if◌then◌else◌, List, filter, length, slice_index}
 use Rattle.std.specs.List.{range_with_len}
-use Rattle.rio_base.specs.Disks.{is_pending, raised}
 use Rattle.rio_base.specs.Machine.{Contents}
+use Rattle.rio_base.specs.Disks.{is_pending, raised}
 use Rattle.rio_model.specs.Cover.{IsCleaned, OnDisk}
 use Rattle.rio_model.specs.Registry.{frames_of, is_dirty, is_valid, tag_at}
 use Rattle.registry.specs.Entries.{entry_of}
+
+-- ---- the disk stays
+
+-- the disk is neither written nor synced
+pub record SameDisk (old new : Contents) : Type 0 where
+  pub disk : new.disk ≡ old.disk
+  pub pending : new.pending ≡ old.pending
+  pub writes : new.writes ≡ old.writes
+
+-- ---- a flush
 
 -- entry k has a page that the disk may not have
 abbrev pub needs_write : List ℕ → ℕ → Bool

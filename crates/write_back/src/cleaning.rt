@@ -5,7 +5,7 @@ ghost use Rattle.rio_base.specs.Disks.{block_at, is_pending, raised};
 ghost use Rattle.rio_base.specs.Machine.{FaultCause, Lasts, StepEnds};
 ghost use Rattle.rio_model.specs.Cover.{Coherent, HeldEntry, IsBare, IsCleaned, Keeps, Narrows, OnDisk, frame_page};
 ghost use Rattle.rio_model.specs.Registry.{IsValid, OneEntry, frames_of, is_dirty, tag_at, tag_block};
-ghost use Rattle.write_back.specs.Writing.{SameDisk};
+ghost use Rattle.write_back.specs.Flushing.{SameDisk};
 
 use registry::{clear, frame_page_of, load_tag, set_clean};
 use rio_base::{Machine, Page, Stopped, VolFail};

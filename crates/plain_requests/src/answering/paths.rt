@@ -2,7 +2,7 @@
 
 ghost use Rattle.std.specs.Prelude.{◌≡◌, ◌<◌, length, IfOk, MatchResult, Ok as Good, Err as Bad};
 ghost use Rattle.std.specs.FinMap.{get};
-ghost use Rattle.rio_base.specs.Pieces.{pieces as pieces_of};
+ghost use Rattle.rio_base.specs.Bytes.{pieces as pieces_of};
 ghost use Rattle.rio_model.specs.States.{front_of, last_of as defined_last};
 ghost use Rattle.rio_requests.specs.Answers.{found as found_of};
 ghost use Rattle.rio_model.specs.Paths.{names_of as defined_names, is_dir as is_dir_of, walk as walk_of, walk_to_dir as walk_to_dir_of};

@@ -3,9 +3,8 @@
 ghost use Rattle.std.specs.Prelude.{◌≡◌, IfOk, map};
 ghost use Rattle.std.specs.FinMap.{get};
 ghost use Rattle.rio_requests.specs.Answer.{answered as answered_of, at_inode};
-ghost use Rattle.rio_model.specs.States.{names_in as names_in_of};
+ghost use Rattle.rio_model.specs.States.{names_in as names_in_of, open_inodes};
 ghost use Rattle.rio_requests.specs.Answers.{found as found_of, is_among as is_among_of, is_empty as is_empty_of, is_open as is_open_of, rmdir as rmdir_of, rmdir_node as rmdir_node_of, unlink as unlink_of, unlink_node as unlink_node_of, without as without_of};
-ghost use Rattle.rio_model.specs.Transactions.{open_inodes};
 ghost use Rattle.rio_requests.specs.declared.reply.Reply.TheVariants.{Ok as Done};
 ghost use Rattle.rio_model.specs.declared.txn.Txn.{Txn as TxnOf};
 

@@ -5,7 +5,7 @@ ghost use Rattle.std.specs.FinMap.{get};
 ghost use Rattle.std.specs.Str.{bytes_eq};
 ghost use Rattle.rio_requests.specs.Answers.{is_below as is_below_of, move_row as move_row_of, moved as moved_of, rename as rename_of, rename_at as rename_at_of, rename_row as rename_row_of, rename_to as rename_to_of, replace_row as replace_row_of, row_wanted as row_wanted_of};
 ghost use Rattle.rio_model.specs.Paths.{walk as walk_of};
-ghost use Rattle.rio_model.specs.Transactions.{open_inodes};
+ghost use Rattle.rio_model.specs.States.{open_inodes};
 
 use super::making::add_name;
 use super::paths::{directory_of, is_dir, last_of, names_of, walk};

@@ -3,7 +3,7 @@ use Rattle.std.specs.FinMap.{get}
 use Rattle.rio_base.specs.Blocks.{BlockWords}
 use Rattle.rio_base.proofs.Rules.{looks_trans}
 use Rattle.rio_model.specs.VolumeReads.{ReadsAs}
-use Rattle.boots.specs.FileBytes.{bytes_in}
+use Rattle.boots.specs.Legal.{bytes_in}
 use Rattle.volume_check.proofs.Counts.{sum_next}
 use Rattle.boots.proofs.counting.sum_files.Goals as goal
 

@@ -7,7 +7,7 @@ use Rattle.rio_base.specs.Shapes.{HasShape}
 use Rattle.rio_model.specs.declared.state.State.{State}
 use Rattle.rio_model.specs.Sizes.{largest_size}
 use Rattle.rio_model.specs.VolumeReads.{ReadsAs}
-use Rattle.boots.specs.FileBytes.{bytes_in}
+use Rattle.boots.specs.Legal.{bytes_in}
 use Rattle.boots.proofs.counting.sum_files.Given as goal
 
 abbrev pub invariant-loop-k : goal.invariant-loop-k

@@ -1,7 +1,7 @@
 use Rattle.std.proofs.Common.{length}
 use Rattle.rio_model.specs.declared.state.State.{State}
 use Rattle.cached_pages.specs.Caches.{CacheSound, cache_below, cache_health}
-use Rattle.boots.specs.Cores.{CoreHolds}
+use Rattle.boots.specs.Boots.{CoreHolds}
 use Rattle.boots.proofs.Answered.{Leads}
 use Rattle.boots.proofs.serving.answer_all.Given as goal
 

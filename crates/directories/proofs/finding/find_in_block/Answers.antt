@@ -1,7 +1,7 @@
 use Rattle.inode_table.proofs.Exits.{ends_err, ends_ok}
 use Rattle.rio_base.proofs.Rules.{looks_trans}
 use Rattle.rio_base.proofs.BlockRules.{caches_trans, can_name_on, ends_later}
-use Rattle.directories.specs.Finding.{FindsIn}
+use Rattle.directories.specs.Reading.{FindsIn}
 use Rattle.directories.proofs.Common.{BlockWords, IfOk, arith, err_from_is_err_and, subst, sym, ℕ, ◌<◌}
 use Rattle.directories.proofs.Found.{finds_read}
 use Rattle.directories.proofs.finding.find_in_block.Goals as goal

@@ -1,7 +1,7 @@
 use Rattle.inode_table.proofs.Exits.{ends_err}
 use Rattle.directories.proofs.Common.{◌*◌, ◌<◌, ◌∙◌, ◌-◌, ◌/◌, ℕ, min, sym, ap, subst, IfOk, err_from_is_err_and, BlockWords, held, placed_at, look_trans, arith}
 use Rattle.rio_base.proofs.BlockRules.{ends_later}
-use Rattle.directories.specs.Finding.{FindsIn}
+use Rattle.directories.specs.Reading.{FindsIn}
 use Rattle.directories.proofs.CanRead.{block_on, can_page, can_stays, dir_held, dir_size, has_page, looked_page, page_below, page_on}
 use Rattle.directories.proofs.Found.{finds_held, finds_in_page}
 use Rattle.directories.proofs.finding.find_in_page.Goals as goal

@@ -3,7 +3,7 @@ use Rattle.directories.proofs.Common.{◌≡◌, ◌<◌, ◌∙◌, ap, arith, 
 use Rattle.std.proofs.Common.{le_trans}
 use Rattle.rio_base.proofs.BlockRules.{ends_later}
 use Rattle.node_pages.proofs.LookingUpRules.{look_refl}
-use Rattle.directories.specs.Finding.{FindsInPage}
+use Rattle.directories.specs.Reading.{FindsInPage}
 use Rattle.directories.proofs.CanRead.{can_look, dir_held, sized}
 use Rattle.directories.proofs.Found.{none_next}
 use Rattle.node_pages.proofs.EndsOn.{if_err}

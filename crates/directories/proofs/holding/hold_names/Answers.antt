@@ -4,7 +4,7 @@ use Rattle.directories.proofs.Common.{◌≡◌, ◌/◌, ◌∙◌, arith, sym,
 use Rattle.std.proofs.Common.{le_trans}
 use Rattle.std.specs.FinMap.{empty}
 use Rattle.node_pages.proofs.LookingUpRules.{look_refl}
-use Rattle.directories.specs.Holding.{HoldsRows}
+use Rattle.directories.specs.Rows.{HoldsRows}
 use Rattle.node_pages.proofs.EndsOn.{if_err}
 use Rattle.directories.proofs.CanRead.{can_look, can_read, dir_held, dir_size, sized}
 use Rattle.directories.proofs.EntryRead.{IsSlot, slot_read}

@@ -7,7 +7,7 @@ use Rattle.file_pages.proofs.Prepared.{leaves_err}
 use Rattle.file_pages.proofs.Common.{◌≡◌, ◌<◌, ◌≤◌, length, sym, subst, arith, inr, OnOk, err_from_is_err_and, free_blocks, ◌then◌, ends_by_after, IsInode, held_of, largest_size, resized, volume_layout, LeavesInUse}
 use Rattle.node_pages.specs.Changes.{wanted_blocks}
 use Rattle.file_pages.specs.Files.{HasSpace, ResizeStops, SetsBoth, StopsAs, file_bytes}
-use Rattle.node_pages.specs.Forgetting.{Forgets}
+use Rattle.node_pages.specs.Staging.{Forgets}
 use Rattle.file_pages.proofs.Resized.{file_ino, size_fault, size_stopped}
 use Rattle.file_pages.proofs.resizing.resize.Goals as goal
 

@@ -1,7 +1,7 @@
 use Rattle.node_pages.proofs.EndsOn.{if_err, on_ok}
 use Rattle.file_pages.proofs.Common.{◌∙◌, ℕ, sym, subst, arith, inl, Contains, err_from_is_err_and, ◌then◌, numbers, volume_layout, LeavesInUse}
 use Rattle.node_pages.specs.Changes.{planned_node}
-use Rattle.node_pages.specs.Forgetting.{Uncached}
+use Rattle.node_pages.specs.Staging.{Uncached}
 use Rattle.node_pages.proofs.OrderRules.{leaves_beside, leaves_looked, ready_left}
 use Rattle.node_pages.proofs.LookingUpRules.{can_look_up}
 use Rattle.file_pages.specs.Preparing.{Prepared}

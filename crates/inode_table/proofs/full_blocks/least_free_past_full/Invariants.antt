@@ -2,8 +2,7 @@ use Rattle.std.proofs.Common.{◌-◌, ◌≡◌, ◌≤◌}
 use Rattle.rio_base.specs.Blocks.{Looks}
 use Rattle.rio_base.specs.BlockSets.{CachesBy}
 use Rattle.rio_base.specs.Shapes.{HasShape}
-use Rattle.inode_table.specs.Inodes.{IsMetadata}
-use Rattle.inode_table.specs.Known.{KnowsFull}
+use Rattle.inode_table.specs.Inodes.{IsMetadata, KnowsFull}
 use Rattle.inode_table.proofs.PassedBlocks.{UsedBefore}
 use Rattle.inode_table.proofs.full_blocks.least_free_past_full.Given as goal
 

@@ -1,11 +1,11 @@
 use Rattle.std.proofs.Common.{refl, ap, subst, ◌∙◌, arith, le_trans}
 use Rattle.std.specs.Prelude.{Err}
 use Rattle.std.proofs.lemmas.Result.{IfOk-from_err}
-use Rattle.rio_base.specs.Counts.{Rose}
+use Rattle.rio_base.specs.Failures.{Rose}
 use Rattle.rio_base.specs.Rules.{limit_refl, limit_trans}
 use Rattle.rio_base.proofs.Exits.{on_err}
 use Rattle.rio_base.proofs.Rules.{rose_later}
-use Rattle.request_codec.specs.Reading.{Reading}
+use Rattle.request_codec.specs.Lines.{Reading}
 use Rattle.line_loop.proofs.Leaving.{later_than, sink_no_source, sink_no_stop, stayed}
 use Rattle.line_loop.proofs.Running.{budget_falls}
 use Rattle.line_loop.proofs.Turns.{ask_later, ask_rises, ask_steady, ask_unstopped, each_end, each_holds, each_more, each_sent, each_sink, each_start, each_stop, each_way, calm_still, none_waits, quiet_or_none}

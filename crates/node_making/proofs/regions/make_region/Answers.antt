@@ -5,7 +5,7 @@ use Rattle.std.specs.Prelude.{OnOk}
 use Rattle.rio_model.specs.States.{least_free as least_of}
 use Rattle.rio_requests.specs.Answers.{make_new as make_new_of, region_at, new_region}
 use Rattle.request_ends.specs.Ends.{SaysIno}
-use Rattle.node_making.specs.NewRegions.{SizesRegion}
+use Rattle.node_making.specs.NewNodes.{SizesRegion}
 use Rattle.request_ends.specs.declared.failures.FileFail.TheVariants.{Refused}
 use Rattle.request_ends.proofs.AnsweredAt.{ends_after, ends_look, ends_as}
 use Rattle.request_ends.proofs.CallEnds.{after_well, ends_on, ends_refused, well}

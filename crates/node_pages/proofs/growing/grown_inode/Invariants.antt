@@ -1,5 +1,5 @@
 use Rattle.node_pages.proofs.Common.{ℕ, ◌≡◌, ◌<◌, ◌≤◌, length, slice_index, numbers}
-use Rattle.node_pages.specs.Growing.{new_direct}
+use Rattle.node_pages.specs.Changes.{new_direct}
 use Rattle.node_pages.proofs.growing.grown_inode.Given as goal
 
 abbrev pub invariant-loop-p : goal.invariant-loop-p

@@ -1,6 +1,5 @@
 use Rattle.node_pages.proofs.Common.{◌≡◌, ◌-◌, ◌≤◌, map, numbers, run_edits}
-use Rattle.node_pages.specs.Changes.{word_edit}
-use Rattle.node_pages.specs.Growing.{new_word}
+use Rattle.node_pages.specs.Changes.{new_word, word_edit}
 use Rattle.node_pages.proofs.growing.table_edits.Given as goal
 
 abbrev pub invariant-loop-w : goal.invariant-loop-w

@@ -1,8 +1,7 @@
 use Rattle.std.proofs.Common.{Some, Vec, List, ℕ, arith, refl, subst, sym, take}
 use Rattle.std.specs.declared.alloc.Global.{Global}
 use Rattle.rio_base.specs.Bytes.{bytes_of}
-use Rattle.held_memory.specs.Moments.{Meanwhile}
-use Rattle.held_memory.specs.WordFiles.{IsWrittenFront}
+use Rattle.held_memory.specs.WordFiles.{IsWrittenFront, Meanwhile}
 use Rattle.part_tests.specs.PastFiles.{seen}
 use Rattle.part_tests.proofs.Fronts.{front_kept}
 use Rattle.part_tests.proofs.past_file.keep_fronts.Goals as goal

@@ -1,7 +1,6 @@
 use Rattle.std.proofs.Common.{Some}
 use Rattle.rio_base.specs.Bytes.{bytes_of}
-use Rattle.held_memory.specs.Moments.{Meanwhile}
-use Rattle.held_memory.specs.WordFiles.{IsWrittenFront}
+use Rattle.held_memory.specs.WordFiles.{IsWrittenFront, Meanwhile}
 use Rattle.part_tests.specs.PastFiles.{seen}
 use Rattle.part_tests.proofs.past_file.keep_fronts.Given as goal
 

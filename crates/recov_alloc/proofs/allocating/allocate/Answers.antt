@@ -7,7 +7,7 @@ use Rattle.rio_model.proofs.UndoRules.{undoes_refl}
 use Rattle.rio_model.specs.Heap.{Allocates, Finds, IsFirstFit, IsGap, OfBlocks, touched_pages}
 use Rattle.rio_model.specs.Undo.{live, taken, undo_records, undo_words, IsRegion, Undoes}
 use Rattle.undo_list.proofs.Frames.{region_at, undoes_from}
-use Rattle.undo_list.specs.Headers.{IsHeader}
+use Rattle.undo_list.specs.Records.{IsHeader}
 use Rattle.recov_alloc.proofs.Marks.{allocated}
 use Rattle.recov_alloc.proofs.Outcomes.{ends_heap, ends_undo, full_refused, heap_did, heap_none, heap_not_block, heap_not_full, heap_not_undo, no_err, no_gap_alone, no_gap_ends, none_refused, undo_is_full, undo_not_block, undo_not_full}
 use Rattle.recov_alloc.proofs.allocating.allocate.Goals as goal

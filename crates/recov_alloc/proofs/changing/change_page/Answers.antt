@@ -7,7 +7,7 @@ use Rattle.rio_model.proofs.UndoRules.{gains_covers, undoes_refl, undoes_trans}
 use Rattle.rio_model.specs.Heap.{touched_pages}
 use Rattle.rio_model.specs.Undo.{Gains, live, taken, undo_records, undo_words, Undoes, places}
 use Rattle.undo_list.proofs.Frames.{undoes_from}
-use Rattle.undo_list.specs.Headers.{IsHeader}
+use Rattle.undo_list.specs.Records.{IsHeader}
 use Rattle.recov_alloc.proofs.Marks.{changed, one_page, page_marked}
 use Rattle.recov_alloc.proofs.Outcomes.{ends_did, ends_handed, ends_same, never_full, no_err, same_err}
 use Rattle.recov_alloc.proofs.changing.change_page.Goals as goal

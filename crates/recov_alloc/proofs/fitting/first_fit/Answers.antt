@@ -3,7 +3,7 @@ use Rattle.std.proofs.lemmas.Result.{err_from_is_err_and}
 use Rattle.rio_base.proofs.BlockRules.{ends_later}
 use Rattle.rio_base.proofs.RegionRules.{stays_trans}
 use Rattle.undo_list.proofs.Frames.{region_at}
-use Rattle.undo_list.specs.Headers.{IsHeader}
+use Rattle.undo_list.specs.Records.{IsHeader}
 use Rattle.recov_alloc.proofs.Outcomes.{ends_err}
 use Rattle.recov_alloc.proofs.fitting.first_fit.Goals as goal
 

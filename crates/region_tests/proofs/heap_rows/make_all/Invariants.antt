@@ -1,4 +1,4 @@
-use Rattle.region_tests.specs.TestHeaps.{IsHeap}
+use Rattle.region_tests.specs.TestRegions.{IsHeap}
 use Rattle.region_tests.proofs.heap_rows.make_all.Given as goal
 
 abbrev pub invariant-loop-row : goal.invariant-loop-row

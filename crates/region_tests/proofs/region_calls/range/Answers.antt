@@ -1,5 +1,5 @@
 use Rattle.std.specs.Prelude.{IsErrOf}
-use Rattle.region_tests.specs.TestTables.{Sound}
+use Rattle.region_tests.specs.TestRegions.{Sound}
 use Rattle.vista_region.specs.declared.failures.TxnFail.TheVariants.{Stopped}
 use Rattle.region_tests.proofs.TestTables.{on_ok, still}
 use Rattle.region_tests.proofs.region_calls.range.Goals as goal

@@ -1,5 +1,5 @@
 use Rattle.rio_model.specs.Undo.{IsRegion}
-use Rattle.region_tests.specs.TestTables.{Sound}
+use Rattle.region_tests.specs.TestRegions.{Sound}
 use Rattle.region_tests.proofs.region_rows.make_rows.Given as goal
 
 abbrev pub invariant-loop-row : goal.invariant-loop-row

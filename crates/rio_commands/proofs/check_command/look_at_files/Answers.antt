@@ -1,4 +1,4 @@
-use Rattle.rio_base.specs.Counts.{Rose}
+use Rattle.rio_base.specs.Failures.{Rose}
 use Rattle.pair_files.proofs.PairRules.{pair_loads}
 use Rattle.rio_commands.proofs.Checking.{found_later, found_unloaded, sure_of_load}
 use Rattle.rio_commands.proofs.check_command.look_at_files.Goals as goal

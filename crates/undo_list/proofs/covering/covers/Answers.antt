@@ -4,7 +4,7 @@ use Rattle.rio_base.proofs.BlockRules.{ends_later}
 use Rattle.rio_base.proofs.RegionRules.{stays_trans}
 use Rattle.rio_model.specs.Undo.{IsRegion, UndoRecord, undo_records}
 use Rattle.undo_list.specs.declared.covering.Span.{Span}
-use Rattle.undo_list.specs.Chains.{IsChain}
+use Rattle.undo_list.specs.Records.{IsChain}
 use Rattle.undo_list.proofs.Chains.{chain_at, newest_fits, newest_small, no_chain}
 use Rattle.undo_list.proofs.Covers.{leaves_all, leaves_await, leaves_by, leaves_end, leaves_none, leaves_told, Leaves}
 use Rattle.undo_list.proofs.Frames.{region_at}

@@ -1,7 +1,7 @@
 use Rattle.std.proofs.Common.{◌≡◌, ◌≤◌, List}
 use Rattle.rio_base.specs.Regions.{Stays}
 use Rattle.rio_model.specs.Undo.{IsRegion, UndoRecord, undo_records}
-use Rattle.undo_list.specs.Chains.{IsChain}
+use Rattle.undo_list.specs.Records.{IsChain}
 use Rattle.undo_list.proofs.Covers.{Leaves}
 use Rattle.undo_list.proofs.covering.covers.Given as goal
 

@@ -1,5 +1,5 @@
 use Rattle.std.proofs.Common.{◌≤◌, ◌-◌}
-use Rattle.undo_list.specs.Marks.{MarksRun}
+use Rattle.undo_list.specs.Bits.{MarksRun}
 use Rattle.undo_list.proofs.marks.mark.Given as goal
 
 abbrev pub invariant-loop-next : goal.invariant-loop-next

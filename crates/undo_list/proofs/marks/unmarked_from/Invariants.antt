@@ -1,5 +1,5 @@
 use Rattle.std.proofs.Common.{◌≡◌, ℕ, ◌<◌, ◌≤◌, ◌-◌}
-use Rattle.undo_list.specs.Marks.{mark_of}
+use Rattle.undo_list.specs.Bits.{mark_of}
 use Rattle.undo_list.proofs.marks.unmarked_from.Given as goal
 
 abbrev pub invariant-loop-next : goal.invariant-loop-next

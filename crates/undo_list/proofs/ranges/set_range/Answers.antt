@@ -7,7 +7,7 @@ use Rattle.rio_model.proofs.UndoRules.{rests_undoes}
 use Rattle.rio_model.specs.Undo.{places, taken, undo_records, undo_words}
 use Rattle.undo_list.proofs.Frames.{either_from, gains_from, rests_from, rests_same, undoes_from}
 use Rattle.undo_list.proofs.Outcomes.{ends_handed, never_full, on_ok}
-use Rattle.undo_list.specs.Headers.{IsHeader}
+use Rattle.undo_list.specs.Records.{IsHeader}
 use Rattle.undo_list.proofs.ranges.set_range.Goals as goal
 
 pub set_range_by_header-requires-clause-header : goal.set_range_by_header-requires-clause-header

@@ -4,7 +4,7 @@ use Rattle.rio_base.proofs.BlockRules.{ends_later}
 use Rattle.rio_base.proofs.RegionRules.{stays_trans}
 use Rattle.undo_list.proofs.Copies.{copied_on, front_on}
 use Rattle.undo_list.proofs.Outcomes.{ends_err}
-use Rattle.undo_list.specs.Copies.{copied}
+use Rattle.undo_list.specs.Stages.{copied}
 use Rattle.undo_list.proofs.runs.copy_by_runs.Goals as goal
 
 pub returns-in_err-copy_run-clause-front : goal.returns-in_err-copy_run-clause-front

@@ -1,6 +1,6 @@
 use Rattle.std.proofs.Common.{◌≡◌, ◌≤◌, ◌-◌}
 use Rattle.rio_base.specs.Regions.{Stays}
-use Rattle.undo_list.specs.Copies.{copied}
+use Rattle.undo_list.specs.Stages.{copied}
 use Rattle.undo_list.proofs.runs.copy_by_runs.Given as goal
 
 abbrev pub invariant-loop-done : goal.invariant-loop-done

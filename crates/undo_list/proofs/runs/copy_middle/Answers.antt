@@ -1,6 +1,6 @@
 use Rattle.std.proofs.Common.{OnOk, arith, subst, sym, ◌+◌, ◌≡◌, ◌≤◌}
 use Rattle.std.proofs.lemmas.List.{length-take-le}
-use Rattle.undo_list.specs.Copies.{CopiedFront, copied}
+use Rattle.undo_list.specs.Stages.{CopiedFront, copied}
 use Rattle.undo_list.proofs.runs.copy_middle.Goals as goal
 
 pub copy_run-requires-clause-source : goal.copy_run-requires-clause-source

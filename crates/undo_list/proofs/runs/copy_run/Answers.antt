@@ -4,7 +4,7 @@ use Rattle.rio_base.proofs.BlockRules.{ends_later}
 use Rattle.rio_base.proofs.RegionRules.{stays_trans}
 use Rattle.undo_list.proofs.Copies.{copied_put, front_none, front_put}
 use Rattle.undo_list.proofs.Outcomes.{ends_err, on_word, word_ends}
-use Rattle.undo_list.specs.Copies.{copied}
+use Rattle.undo_list.specs.Stages.{copied}
 use Rattle.undo_list.proofs.runs.copy_run.Goals as goal
 
 pub returns-in_err-read_run-clause-ok : goal.returns-in_err-read_run-clause-ok

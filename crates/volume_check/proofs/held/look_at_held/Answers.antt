@@ -4,7 +4,7 @@ use Rattle.rio_model.specs.VolumeFails.{ApartAt, EntryAt, FailsHeld, RegionAt, T
 use Rattle.rio_model.specs.VolumeRules.{EntryRule, IsMapped, NamesApartRule, RegionRule, TreeRule}
 use Rattle.rio_model.proofs.ReadStates.{holds_within}
 use Rattle.rio_model.proofs.VolumeFailRules.{apart_rule, entry_rule, region_rule}
-use Rattle.volume_check.specs.FirstFails.{FailsBy}
+use Rattle.volume_check.specs.Rules.{FailsBy}
 use Rattle.volume_check.specs.Tree.{state_of}
 use Rattle.volume_check.proofs.Chains.{inodes_on, words_back, words_on}
 use Rattle.volume_check.proofs.HeldChain.{fails_entries, fails_names, fails_regions, fails_tree, on_ok_then, reads_all}

@@ -1,5 +1,5 @@
 use Rattle.volume_check.proofs.Common.{List, ℕ, err_from_is_err_and, arith, subst, sym}
-use Rattle.volume_check.specs.NodeWords.{PushesBlock}
+use Rattle.volume_check.specs.NodeBlocks.{PushesBlock}
 use Rattle.volume_check.proofs.Bitmaps.{has_bitmap, whole_len}
 use Rattle.volume_check.proofs.Looking.{looked_err, looked_none, looked_quiet, quiet_memory, refused_err, refused_memory}
 use Rattle.volume_check.proofs.mark_rules.read_bitmap.Goals as goal

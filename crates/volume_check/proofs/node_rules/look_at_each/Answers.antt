@@ -1,6 +1,6 @@
 use Rattle.volume_check.proofs.Common.{ℕ, ◌+◌, subst, sym, err_from_is_err_and, inode_block, BlockWords, Err}
-use Rattle.volume_check.specs.Failures.{Refuses}
-use Rattle.volume_check.specs.FirstFails.{FailsBy}
+use Rattle.volume_check.specs.Looking.{Refuses}
+use Rattle.volume_check.specs.Rules.{FailsBy}
 use Rattle.volume_check.specs.NodeRules.{NodeKeeps, Supposes, node_number}
 use Rattle.volume_check.specs.declared.failures.CheckFail.{CheckFail}
 use Rattle.volume_check.proofs.Bools.{never}

@@ -1,6 +1,6 @@
 use Rattle.volume_check.proofs.Common.{◌<◌, ◌≡◌, arith, subst, err_from_is_err_and, BlockWords, AtPage}
 use Rattle.volume_check.specs.Inodes.{layout_of}
-use Rattle.volume_check.specs.NodeWords.{PushesBlock}
+use Rattle.volume_check.specs.NodeBlocks.{PushesBlock}
 use Rattle.volume_check.proofs.Blocks.{HasBlocks, blocks_next, no_blocks}
 use Rattle.volume_check.proofs.Chains.{can_number, front_page, front_within}
 use Rattle.volume_check.proofs.Fronts.{front_held}

@@ -1,6 +1,6 @@
 use Rattle.volume_check.proofs.Common.{arith, subst, sym}
 use Rattle.std.proofs.Common.{below_more}
-use Rattle.volume_check.specs.Numbers.{InRange}
+use Rattle.volume_check.specs.NodeBlocks.{InRange}
 use Rattle.volume_check.proofs.Bools.{never}
 use Rattle.volume_check.proofs.NodeNumbers.{number_of_block}
 use Rattle.volume_check.proofs.numbers.are_in_range.Goals as goal

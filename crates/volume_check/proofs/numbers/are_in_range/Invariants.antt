@@ -1,5 +1,5 @@
 use Rattle.volume_check.proofs.Common.{ℕ, ◌<◌, slice_index}
-use Rattle.volume_check.specs.Numbers.{InRange, numbers}
+use Rattle.volume_check.specs.NodeBlocks.{InRange, numbers}
 use Rattle.volume_check.proofs.numbers.are_in_range.Given as goal
 
 -- the blocks before this one are

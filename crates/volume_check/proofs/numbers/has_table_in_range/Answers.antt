@@ -1,6 +1,6 @@
 use Rattle.volume_check.proofs.Common.{◌<◌, ◌∙◌, ap, arith, sym, pages}
 use Rattle.volume_check.specs.Inodes.{said}
-use Rattle.volume_check.specs.Numbers.{InRange}
+use Rattle.volume_check.specs.NodeBlocks.{InRange}
 use Rattle.volume_check.proofs.NodeNumbers.{few_tables, free_tables, one_in_range}
 use Rattle.volume_check.proofs.numbers.has_table_in_range.Goals as goal
 

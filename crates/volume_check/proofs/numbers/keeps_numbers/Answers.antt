@@ -1,6 +1,6 @@
 use Rattle.volume_check.proofs.Common.{◌∙◌, ap, arith, err_from_is_err_and}
 use Rattle.volume_check.specs.Inodes.{layout_of}
-use Rattle.volume_check.specs.Numbers.{numbers}
+use Rattle.volume_check.specs.NodeBlocks.{numbers}
 use Rattle.volume_check.proofs.Looking.{looked_err, looked_quiet, refused_err, looked_none}
 use Rattle.volume_check.proofs.NodeNumbers.{ranges_keep, tables_break}
 use Rattle.volume_check.proofs.numbers.keeps_numbers.Goals as goal

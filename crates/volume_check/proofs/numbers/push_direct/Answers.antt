@@ -1,7 +1,7 @@
 use Rattle.volume_check.proofs.Common.{ℕ, ◌≡◌, ◌++◌, ◌∙◌, ap, arith, sym}
 use Rattle.std.proofs.lemmas.List.{append-nil}
 use Rattle.volume_check.specs.Inodes.{layout_of}
-use Rattle.volume_check.specs.Numbers.{numbers, page_numbers}
+use Rattle.volume_check.specs.NodeBlocks.{numbers, page_numbers}
 use Rattle.volume_check.proofs.NodeNumbers.{block_more, direct_said}
 use Rattle.volume_check.proofs.numbers.push_direct.Goals as goal
 

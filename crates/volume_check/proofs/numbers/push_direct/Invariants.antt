@@ -1,6 +1,6 @@
 use Rattle.volume_check.proofs.Common.{◌≡◌, ◌≤◌, ◌++◌, Seen}
 use Rattle.volume_check.specs.Inodes.{HasInodes, layout_of}
-use Rattle.volume_check.specs.Numbers.{numbers, page_numbers}
+use Rattle.volume_check.specs.NodeBlocks.{numbers, page_numbers}
 use Rattle.volume_check.proofs.numbers.push_direct.Given as goal
 
 abbrev pub invariant-loop-page : goal.invariant-loop-page

@@ -1,5 +1,5 @@
 use Rattle.volume_check.proofs.Common.{ℕ, ◌≡◌, ◌++◌, ◌-◌, ◌∙◌, ap, arith}
-use Rattle.volume_check.specs.Numbers.{numbers, page_numbers}
+use Rattle.volume_check.specs.NodeBlocks.{numbers, page_numbers}
 use Rattle.volume_check.proofs.NodeNumbers.{block_next, table_pushed}
 use Rattle.volume_check.proofs.numbers.push_later.Goals as goal
 

@@ -1,5 +1,5 @@
 use Rattle.volume_check.proofs.Common.{ℕ, ◌≡◌, ◌-◌, ◌/◌, ◌<◌, ◌≤◌, ◌++◌, slice_index, AtPage, Placed, half}
-use Rattle.volume_check.specs.Numbers.{numbers, page_numbers}
+use Rattle.volume_check.specs.NodeBlocks.{numbers, page_numbers}
 use Rattle.volume_check.proofs.numbers.push_later.Given as goal
 
 abbrev pub invariant-loop-page : goal.invariant-loop-page

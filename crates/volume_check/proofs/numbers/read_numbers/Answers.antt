@@ -1,6 +1,6 @@
 use Rattle.volume_check.proofs.Common.{ℕ, [], ◌++◌, ◌∷◌, ◌-◌, ◌<◌, ◌≡◌, ◌∙◌, List, ap, arith, subst, sym, AtTable, Block, pages, err_from_is_err_and}
 use Rattle.volume_check.specs.Inodes.{layout_of, said}
-use Rattle.volume_check.specs.Numbers.{numbers, page_numbers}
+use Rattle.volume_check.specs.NodeBlocks.{numbers, page_numbers}
 use Rattle.volume_check.proofs.Counts.{kind_said, size_said}
 use Rattle.volume_check.proofs.NodeNumbers.{few_numbers, free_numbers, many_numbers}
 use Rattle.volume_check.proofs.Looking.{looked_err, looked_none, looked_quiet, quiet_memory, refused_err, refused_memory}

@@ -1,6 +1,6 @@
 use Rattle.volume_check.proofs.Common.{◌≡◌, ◌<◌, length, IsIno, Layout, pages}
 use Rattle.volume_check.specs.Claims.{Claimed, IsBefore}
-use Rattle.volume_check.specs.Numbers.{node_numbers, numbers}
+use Rattle.volume_check.specs.NodeBlocks.{node_numbers, numbers}
 use Rattle.volume_check.proofs.owners.claim_all.Given as goal
 
 -- the slots before this place have their owners

@@ -2,7 +2,7 @@ use Rattle.volume_check.proofs.Common.{List, Option, Block, IsIno, Owns, pages, 
 use Rattle.rio_model.specs.declared.census.Owner.{Owner}
 use Rattle.volume_check.specs.Claims.{Claimed, IsBefore}
 use Rattle.volume_check.specs.Inodes.{layout_of}
-use Rattle.volume_check.specs.Numbers.{node_numbers, numbers}
+use Rattle.volume_check.specs.NodeBlocks.{node_numbers, numbers}
 use Rattle.volume_check.proofs.Chains.{can_number, inodes_on, layout_back, number_range}
 use Rattle.volume_check.proofs.Claims.{claimed_all, claimed_first, once_claimed, owners_claimed, twice_claimed, written_back}
 use Rattle.volume_check.proofs.Looking.{can_go_on, looked_none, on_err, on_none, on_ok, on_quiet, quiet_memory, refused_err, refused_memory}

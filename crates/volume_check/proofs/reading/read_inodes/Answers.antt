@@ -1,5 +1,5 @@
 use Rattle.volume_check.proofs.Common.{◌*◌, ◌+◌, ◌/◌, ◌≡◌, ◌∙◌, arith, refl, subst, ap, err_from_is_err_and, BlockWords}
-use Rattle.volume_check.specs.NodeWords.{PushesBlock}
+use Rattle.volume_check.specs.NodeBlocks.{PushesBlock}
 use Rattle.volume_check.proofs.Blocks.{HasBlocks, blocks_next, inodes_count, no_blocks}
 use Rattle.volume_check.proofs.Chains.{inodes_made}
 use Rattle.volume_check.proofs.Looking.{can_go_on, looked_none, on_err, on_none, on_ok, on_quiet, quiet_memory, refused_err, refused_memory}

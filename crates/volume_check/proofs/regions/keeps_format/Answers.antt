@@ -1,7 +1,7 @@
 use Rattle.volume_check.proofs.Common.{List, ℕ, ◌*◌, ◌/◌, ◌∙◌, ◌≡◌, ◌≤◌, ap, arith, length, subst, sym, BlockWords, err_from_is_err_and, refl}
 use Rattle.rio_model.specs.Held.{Held, held_of}
 use Rattle.rio_model.specs.Sizes.{pages}
-use Rattle.volume_check.specs.NodeWords.{HasFront}
+use Rattle.volume_check.specs.NodeBlocks.{HasFront}
 use Rattle.volume_check.specs.RegionWords.{Begins}
 use Rattle.volume_check.proofs.EntryRules.{said_is}
 use Rattle.volume_check.proofs.NodeParts.{front_begins, region_sized}

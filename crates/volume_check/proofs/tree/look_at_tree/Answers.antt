@@ -1,8 +1,8 @@
 use Rattle.volume_check.proofs.Common.{List, Bool, ◌+◌, subst, sym, BlockWords, Err, err_from_is_err_and}
 use Rattle.rio_model.specs.Held.{held_of}
 use Rattle.rio_model.specs.VolumeFails.{TreeAt}
-use Rattle.volume_check.specs.Failures.{Refuses}
-use Rattle.volume_check.specs.FirstFails.{FailsBy}
+use Rattle.volume_check.specs.Looking.{Refuses}
+use Rattle.volume_check.specs.Rules.{FailsBy}
 use Rattle.volume_check.specs.Tree.{Counted, IsAllReached, state_of}
 use Rattle.volume_check.specs.declared.failures.CheckFail.{CheckFail}
 use Rattle.volume_check.specs.declared.name_counts.NameCount.{NameCount}

@@ -1,6 +1,6 @@
 use Rattle.std.proofs.Common.{sym, subst}
 use Rattle.rio_base.specs.Blocks.{BlockWords}
-use Rattle.inode_table.specs.Known.{KnowsFull}
+use Rattle.inode_table.specs.Inodes.{KnowsFull}
 use Rattle.volume_tests.specs.declared.inode_tests.TheConstants.{SHAPE}
 use Rattle.volume_tests.proofs.inode_tests.least_known.Goals as goal
 

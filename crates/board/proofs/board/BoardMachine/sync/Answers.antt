@@ -1,5 +1,5 @@
 use Rattle.std.proofs.Common.{◌≡◌, ◌∙◌, List, ap, refl, subst, sym}
-use Rattle.rio_base.specs.Counts.{Rose}
+use Rattle.rio_base.specs.Failures.{Rose}
 use Rattle.rio_base.specs.Disks.{DiskContents, FaultsLast, with_synced}
 use Rattle.rio_base.specs.Machine.{Falls}
 use Rattle.rio_base.specs.Rules.{true_false}

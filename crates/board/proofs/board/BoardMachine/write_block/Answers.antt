@@ -1,6 +1,6 @@
 use Rattle.std.proofs.Common.{◌≡◌, ◌≤◌, ◌+◌, ◌*◌, ◌∙◌, List, length, ap, refl, subst, sym, arith}
 use Rattle.std.proofs.lemmas.List.{take-append-drop}
-use Rattle.rio_base.specs.Counts.{Rose}
+use Rattle.rio_base.specs.Failures.{Rose}
 use Rattle.rio_base.specs.Disks.{DiskContents, FaultsLast, block_at, with_torn, with_written}
 use Rattle.rio_base.specs.Machine.{Falls}
 use Rattle.rio_base.specs.Memory.{page_at}

@@ -1,7 +1,6 @@
 use Rattle.std.proofs.Common.{◌∙◌, ◌≡◌, Some, subst, sym, ap, arith}
 use Rattle.rio_base.specs.Bytes.{bytes_of}
-use Rattle.held_memory.specs.Moments.{Meanwhile}
-use Rattle.held_memory.specs.WordFiles.{FileBytes}
+use Rattle.held_memory.specs.WordFiles.{FileBytes, Meanwhile}
 use Rattle.held_memory.proofs.RunFronts.{first_held, first_passed, still_misfits}
 use Rattle.held_memory.proofs.held_words.HeldWords.new.Goals as goal
 

@@ -1,5 +1,5 @@
 use Rattle.plain_requests.proofs.Common.{◌≡◌, ◌++◌, drop}
-use Rattle.rio_base.specs.Pieces.{pieces, Lacks}
+use Rattle.rio_base.specs.Bytes.{pieces, Lacks}
 use Rattle.plain_requests.proofs.answering.paths.pieces.Given as goal
 
 -- the pieces made so far, and then those of the name begun and the bytes that are left

@@ -1,5 +1,5 @@
 use Rattle.std.proofs.Common.{◌≡◌, true, [], subst, ap, ◌∙◌}
-use Rattle.request_codec.specs.Reading.{Reading}
+use Rattle.request_codec.specs.Lines.{Reading}
 use Rattle.request_codec.proofs.HeldLines.{holds_line}
 use Rattle.request_codec.proofs.lines.LineReader.held_line.Goals as goal
 

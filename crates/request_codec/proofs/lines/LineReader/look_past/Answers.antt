@@ -1,5 +1,5 @@
 use Rattle.std.proofs.Common.{ap, arith, ◌∙◌}
-use Rattle.request_codec.specs.Reading.{Reading}
+use Rattle.request_codec.specs.Lines.{Reading}
 use Rattle.request_codec.proofs.Passing.{fails_unread, limit_no_fault, runs_over}
 use Rattle.request_codec.proofs.lines.LineReader.look_past.Goals as goal
 

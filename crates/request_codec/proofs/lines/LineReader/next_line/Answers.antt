@@ -2,7 +2,7 @@ use Rattle.std.proofs.Common.{refl, sym, ap, subst, ◌∙◌, ◌≤◌, ◌^�
 use Rattle.std.proofs.lemmas.Result.{err_from_is_err_and}
 use Rattle.rio_base.specs.Rules.{true_false}
 use Rattle.rio_base.proofs.MachineRules.{never}
-use Rattle.request_codec.specs.Reading.{Reading}
+use Rattle.request_codec.specs.Lines.{Reading}
 use Rattle.request_codec.proofs.Passing.{ends_next, fails_next, found_line, memory_no_fault, more_unended, reads_next, stays_ended}
 use Rattle.request_codec.proofs.lines.LineReader.next_line.Goals as goal
 

@@ -1,5 +1,5 @@
 use Rattle.std.proofs.Common.{ap, ◌∙◌, ◌+◌, drop}
-use Rattle.request_codec.specs.Reading.{Reading}
+use Rattle.request_codec.specs.Lines.{Reading}
 use Rattle.request_codec.proofs.HeldLines.{passes_line}
 use Rattle.request_codec.proofs.lines.LineReader.pass_line.Goals as goal
 

@@ -1,6 +1,6 @@
 use Rattle.std.proofs.Common.{ap, ◌∙◌}
 use Rattle.rio_base.proofs.MachineRules.{never}
-use Rattle.request_codec.specs.Reading.{Reading}
+use Rattle.request_codec.specs.Lines.{Reading}
 use Rattle.request_codec.proofs.Passing.{fails_unread}
 use Rattle.request_codec.proofs.lines.LineReader.refill.Goals as goal
 

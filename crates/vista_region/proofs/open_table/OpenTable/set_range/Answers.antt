@@ -12,7 +12,7 @@ use Rattle.rio_base.proofs.Rules.{ends_by_after}
 use Rattle.rio_model.proofs.UndoRules.{undoes_refl}
 use Rattle.undo_list.proofs.Frames.{undoes_from, either_from}
 use Rattle.undo_list.proofs.Outcomes.{stays_none}
-use Rattle.undo_list.specs.Headers.{IsHeader}
+use Rattle.undo_list.specs.Records.{IsHeader}
 use Rattle.vista_region.proofs.Exits.{told_ends, told_quiet, told_active, told_words, told_past, inactive, ends_handed, handed_ends, handed_fault, ends_undo, undoes_same, fits_same, fits_range}
 use Rattle.undo_list.specs.declared.failures.UndoFail.TheVariants.{Stopped as UndoStopped}
 use Rattle.vista_region.proofs.open_table.OpenTable.set_range.Goals as goal

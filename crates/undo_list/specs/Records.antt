@@ -1,10 +1,20 @@
--- The records that a head names, read one after the other.
-use Rattle.std.specs.Prelude.{◌≡◌, ℕ, ◌+◌, ◌-◌, ◌<◌, ◌≤◌, ◌⊎◌, List, ◌∷◌, length}
+-- A region's header and the records that a head names, as they are read.
+use Rattle.std.specs.Prelude.{◌≡◌, ℕ, ◌+◌, ◌-◌, ◌<◌, ◌≤◌, ◌⊎◌, ◌∷◌, List, length}
 use Rattle.rio_base.specs.Regions.{RegionContent}
 use Rattle.rio_model.specs.Undo.{UndoRecord, Links, Within, is_covered, places, taken, undo_records, undo_word, undo_words}
-use Rattle.undo_list.specs.Marks.{mark_of}
+use Rattle.undo_list.specs.declared.records.Header.{Header}
+use Rattle.undo_list.specs.Bits.{mark_of}
 use Rattle.undo_list.specs.declared.covering.Span.{Span}
 use Rattle.undo_list.specs.declared.records.SavedAt.{SavedAt}
+
+-- ---- the words of the header behind the magic word
+
+pub record IsHeader (f : RegionContent) (h : Header) : Type 0 where
+  pub undo : h.undo ≡ f 1
+  pub data_pages : h.«data» ≡ f 2
+  pub head : h.head ≡ f 3
+
+-- ---- records, read one after the other
 
 -- records from a head on
 pub record IsChain (f : RegionContent) (head : ℕ) (rs : List UndoRecord) : Type 0 where

@@ -1,11 +1,13 @@
--- The blocks of one node, by the numbers that count.
-use Rattle.std.specs.Prelude.{ℕ, ◌<◌, ◌≤◌, ◌++◌, nat_lt, if◌then◌else◌, List, [], map}
+-- The blocks of one node, by the numbers that count, and their words, read one block after the other.
+use Rattle.std.specs.Prelude.{ℕ, ◌<◌, ◌≤◌, ◌++◌, ◌≡◌, ◌+◌, ◌*◌, nat_lt, if◌then◌else◌, List, [], map, length, slice_index}
 use Rattle.std.specs.List.{range_with_len}
 use Rattle.rio_base.specs.declared.places.Block.{Block}
 use Rattle.rio_base.specs.declared.places.VolumeShape.{VolumeShape}
 use Rattle.rio_base.specs.Shapes.{reserved}
+use Rattle.rio_base.specs.Blocks.{BlockWords}
 use Rattle.rio_model.specs.Placed.{AtPage, AtTable, HasSlot, Placed}
 use Rattle.rio_model.specs.Sizes.{largest_size, pages, tables}
+use Rattle.rio_model.specs.Held.{Held}
 
 abbrev pub numbers : List Block → List ℕ
 numbers blocks = map (λ b. b.0) blocks
@@ -26,3 +28,16 @@ InRange shape b = (reserved shape ≤ b) × (b < shape.blocks)
 pub record CanNumber (n : Placed) (count : ℕ) : Type 0 where
   pub size : 0 < n.kind → n.size ≤ largest_size
   pub tables : (k : ℕ) → HasSlot n (AtTable k) → n.block (AtTable k) < count
+
+-- ---- the words
+
+-- the words of block b were added to others
+pub record PushesBlock (f : BlockWords) (b : ℕ) (old new : List ℕ) : Type 0 where
+  pub len : length new ≡ length old + 512
+  pub front : (y : ℕ) → y < length old → slice_index new y ≡ slice_index old y
+  pub block : (w : ℕ) → w < 512 → slice_index new (length old + w) ≡ f b w
+
+-- the words of the first `count` pages of a node. What lies past its size may be anything
+pub record HasFront (h : Held) (count : ℕ) (words : List ℕ) : Type 0 where
+  pub len : length words ≡ 512 * count
+  pub each : (y : ℕ) → y < 512 * count → 8 * y < h.size → slice_index words y ≡ h.word y
