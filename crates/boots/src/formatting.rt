@@ -39,7 +39,7 @@ pub fn format_parts(
 }
 
 /// A disk with a fresh volume of this shape.
-#[tactic(auto, using(crate::proofs::FreshDisks::volume_long))]
+#[tactic(auto, using(pair_files::proofs::FreshVolumes::volume_long))]
 fn fresh_disk(alloc: Global, shape: &VolumeShape) -> Result<MemDisk, AllocError>
     requires { IsServed shape.now }
     ensures fresh { IfOk result (λ d. IsFreshDisk shape.now (state_of d).blocks (state_of d).pending) }

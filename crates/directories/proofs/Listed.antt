@@ -9,7 +9,7 @@ use Rattle.std.proofs.lemmas.List.FromFn.{map-range_with_len_more}
 use Rattle.std.proofs.lemmas.List.{append_assoc, get_or-drop, get_or-take, length-take-le}
 use Rattle.rio_base.specs.Blocks.{IsRun}
 use Rattle.rio_model.specs.Held.{byte_in, byte_of}
-use Rattle.node_pages.specs.WordBytes.{bytes_of}
+use Rattle.rio_base.specs.Bytes.{bytes_of}
 use Rattle.node_pages.proofs.ByteRuns.{line_run}
 use Rattle.directories.specs.Entries.{name_in}
 use Rattle.directories.specs.Reading.{CanReadDir}

@@ -7,8 +7,10 @@ use Rattle.std.proofs.lemmas.List.FromFn.{fill_by_all, get_or-map-range_with_len
 use borrow.Rule.Slice.PartMut.{put_mid, same_len_mid}
 use Rattle.byteorder.specs.Endian.{IsRead, little_number}
 use Rattle.rio_model.specs.Held.{byte_in, byte_of}
-use Rattle.node_pages.specs.WordBytes.{bytes_of, over}
-use Rattle.node_pages.proofs.ByteRuns.{byte_at, bytes_read, get_mid, over_in, over_out}
+use Rattle.rio_base.specs.Bytes.{bytes_of}
+use Rattle.node_pages.specs.WordBytes.{over}
+use Rattle.rio_base.proofs.Bytes.{bytes_read}
+use Rattle.node_pages.proofs.ByteRuns.{byte_at, get_mid, over_in, over_out}
 use Rattle.directories.specs.declared.entries.NameKey.{NameKey}
 use Rattle.directories.specs.Entries.{IsEntryOf, IsKey, IsWordsOf, name_in}
 use Rattle.directories.proofs.WordBytes.{masked_byte, masked_is}

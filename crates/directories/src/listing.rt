@@ -10,7 +10,7 @@ ghost use Rattle.rio_model.specs.VolumeReady.{AllNamed};
 ghost use Rattle.rio_model.specs.VolumeRules.{EntryRule, IsMapped};
 ghost use Rattle.inode_table.specs.Inodes.{IsInode};
 ghost use Rattle.node_pages.specs.LookingUp.{LooksUp};
-ghost use Rattle.node_pages.specs.WordBytes.{bytes_of};
+ghost use Rattle.rio_base.specs.Bytes.{bytes_of};
 ghost use Rattle.directories.specs.Entries.{name_in};
 ghost use Rattle.directories.specs.Reading.{CanReadDir};
 ghost use Rattle.directories.specs.Rows.{ListsNames};

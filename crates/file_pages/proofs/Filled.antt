@@ -10,8 +10,10 @@ use borrow.Rule.Slice.PartMut.{put_mid, same_len_mid}
 use Rattle.byteorder.specs.Endian.{IsRead, little_number}
 use Rattle.rio_model.specs.Held.{byte_of}
 use Rattle.file_pages.specs.PageBytes.{EndsHave}
-use Rattle.node_pages.specs.WordBytes.{bytes_of, list_byte, over}
-use Rattle.node_pages.proofs.ByteRuns.{byte_at, bytes_read, fits_front, get_mid, over_in, over_out}
+use Rattle.rio_base.specs.Bytes.{bytes_of}
+use Rattle.node_pages.specs.WordBytes.{list_byte, over}
+use Rattle.rio_base.proofs.Bytes.{bytes_read, fits_front}
+use Rattle.node_pages.proofs.ByteRuns.{byte_at, get_mid, over_in, over_out}
 
 mid_length : (a k : ℕ) (xs ys : List ℕ) → length ys ≡ k → a + k ≤ length xs → length (put_mid a k xs ys) ≡ length xs
 mid_length a k xs ys long fits = same_len_mid a k xs ys (long ∙ sym (length-take-le k (drop a xs) (omega (arith, length-drop a xs, fits))))

@@ -13,7 +13,7 @@ ghost use Rattle.rio_model.specs.VolumeRules.{IsMapped};
 ghost use Rattle.block_alloc.specs.Bitmap.{numbers};
 ghost use Rattle.inode_table.specs.Inodes.{IsInode};
 ghost use Rattle.node_pages.specs.LookingUp.{LooksUp, page_blocks};
-ghost use Rattle.node_pages.specs.WordBytes.{bytes_of};
+ghost use Rattle.rio_base.specs.Bytes.{bytes_of};
 ghost use Rattle.file_pages.specs.Files.{file_bytes};
 ghost use Rattle.file_pages.specs.PageBytes.{block_byte};
 

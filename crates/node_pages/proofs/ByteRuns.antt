@@ -1,48 +1,17 @@
 -- Bytes of words in a list, and bytes over others.
-use Rattle.node_pages.proofs.Common.{◌≡◌, ℕ, zero, suc, ◌+◌, ◌-◌, ◌*◌, ◌/◌, ◌%◌, ◌<◌, ◌≤◌, ◌&&◌, ◌⊎◌, true, false, cond, List, [], ◌∷◌, ◌++◌, length, take, drop, refl, sym, ap, ◌∙◌, arith, inl, inr, length-drop, nat_le, nat_lt, cases_lt, nat_tests, take-append-drop, length-take-le, get_or-take, get_or-drop, length-take, map, slice_index, range_with_len}
-use Rattle.std.proofs.Common.{get_or, slice_index}
+use Rattle.node_pages.proofs.Common.{◌≡◌, ℕ, zero, suc, ◌+◌, ◌-◌, ◌*◌, ◌/◌, ◌%◌, ◌<◌, ◌≤◌, ◌&&◌, ◌⊎◌, true, false, cond, List, [], ◌∷◌, ◌++◌, length, take, drop, refl, sym, ap, ◌∙◌, arith, inl, inr, length-drop, nat_le, nat_lt, cases_lt, nat_tests, length-take-le, get_or-take, get_or-drop, map, slice_index, range_with_len}
+use Rattle.std.proofs.Common.{slice_index}
 use Rattle.std.specs.Prelude.{if◌then◌else◌}
-use Rattle.std.specs.Int.{w64, from_le_bytes}
-use Rattle.std.proofs.lemmas.List.{drop-drop, get_or_append_left, get_or-append_right, nil_from_length, get_or_past}
-use Rattle.std.proofs.lemmas.Nat.{le_bytes_8}
+use Rattle.std.proofs.lemmas.List.{get_or_append_left, get_or-append_right}
 use Rattle.std.proofs.lemmas.List.Edits.{paste_all}
 use Rattle.std.proofs.lemmas.Slice.{put_mid-paste}
 use borrow.Rule.Slice.PartMut.{put_mid}
-use Rattle.byteorder.specs.Endian.{little_bytes, little_number}
-use Rattle.byteorder.specs.Numbers.{little_from-take}
+use Rattle.byteorder.specs.Endian.{little_bytes}
+use Rattle.rio_base.specs.Bytes.{bytes_of}
+use Rattle.rio_base.proofs.Bytes.{length-bytes_of}
 use Rattle.rio_model.specs.Held.{byte_of}
-use Rattle.node_pages.specs.WordBytes.{bytes_of, over, list_byte}
+use Rattle.node_pages.specs.WordBytes.{over, list_byte}
 use Rattle.std.proofs.lemmas.List.FromFn.{fill_by_all}
-
--- ---- words read from bytes have those bytes
-
-pub fits_front : (n : ℕ) (xs : List ℕ) → ((i : ℕ) → get_or xs i 0 < 256) → (i : ℕ) → get_or (take n xs) i 0 < 256
-fits_front n xs fits i = elim (cases_lt i n) [
-  | inl below ↦ omega (arith, get_or-take n xs i 0 below, fits i)
-  | inr above ↦ omega (arith, get_or_past (take n xs) i 0 (omega (arith, length-take n xs)))
-]
-
-number_bytes : (xs : List ℕ) → 8 ≤ length xs → ((i : ℕ) → get_or xs i 0 < 256) → little_bytes 8 (little_number 8 xs) ≡ take 8 xs
-number_bytes xs long fits =
-    let front : List ℕ = take 8 xs in
-    let same : little_number 8 front ≡ little_number 8 xs = little_from-take 0 8 8 xs (omega arith) in
-    let value : little_number 8 front ≡ from_le_bytes w64 front = omega arith in
-    let each : (i : ℕ) → get_or front i 0 < 256 = fits_front 8 xs fits in
-    le_bytes_8 front (little_number 8 xs) (length-take-le 8 xs long) each (sym same ∙ value)
-
-pub bytes_read : (src dst : List ℕ) → length src ≡ 8 * length dst → ((i : ℕ) → get_or src i 0 < 256) → ((k : ℕ) → k < length dst → slice_index dst k ≡ little_number 8 (drop (8 * k) src)) → src ≡ bytes_of dst
-bytes_read src [] long fits read = nil_from_length src long
-bytes_read src (d ∷ dst) long fits read =
-    let here : d ≡ little_number 8 src = read 0 (omega arith) in
-    let rest : List ℕ = drop 8 src in
-    let short : length rest ≡ 8 * length dst = omega (arith, length-drop 8 src) in
-    let each : (i : ℕ) → get_or rest i 0 < 256 = λ i. omega (arith, get_or-drop 8 src i 0, fits (8 + i)) in
-    let next : (k : ℕ) → k < length dst → slice_index dst k ≡ little_number 8 (drop (8 * k) rest) = λ k lt.
-    let place : 8 + 8 * k ≡ 8 * (suc k) = omega arith in
-    let at : drop (8 * k) rest ≡ drop (8 * (suc k)) src = drop-drop (8 * k) 8 src ∙ ap (λ (n : ℕ). drop n src) place in
-    read (suc k) (omega arith) ∙ ap (little_number 8) (sym at) in
-    let first : take 8 src ≡ little_bytes 8 d = sym (number_bytes src (omega arith) fits) ∙ ap (little_bytes 8) (sym here) in
-    sym (take-append-drop 8 src) ∙ ap (λ (xs : List ℕ). xs ++ rest) first ∙ ap (λ (xs : List ℕ). little_bytes 8 d ++ xs) (bytes_read rest dst short each next)
 
 -- ---- byte by byte
 
@@ -121,12 +90,8 @@ same_bytes f g (suc n) a b each =
 by_each : (F : ℕ → ℕ) (xs : List ℕ) (a n : ℕ) → length xs ≡ n → ((k : ℕ) → k < n → slice_index xs k ≡ F (a + k)) → xs ≡ map F (range_with_len a n)
 by_each F xs a n long each = fill_by_all (λ k. F (a + k)) xs n 0 long each ∙ same_bytes (λ k. F (a + k)) F n 0 a (λ k few. let e : a + (0 + k) ≡ a + k = omega arith in ap F e)
 
-length_bytes_of : (words : List ℕ) → length (bytes_of words) ≡ 8 * length words
-length_bytes_of [] = refl
-length_bytes_of (w ∷ words) = let rest = length_bytes_of words in omega (arith, rest)
-
 pub line_run : (words bytes : List ℕ) (from to k : ℕ) → bytes ≡ bytes_of words → k ≡ to - from → from ≤ to → to ≤ 8 * length words → take k (drop from bytes) ≡ map (list_byte words) (range_with_len from (to - from))
-line_run words bytes from to k is many order within = by_each (list_byte words) (take k (drop from bytes)) from (to - from) (length-take-le k (drop from bytes) (let l = ap length is ∙ length_bytes_of words in omega (arith, many, order, within, l, length-drop from bytes)) ∙ many) (λ j few. each j few)
+line_run words bytes from to k is many order within = by_each (list_byte words) (take k (drop from bytes)) from (to - from) (length-take-le k (drop from bytes) (let l = ap length is ∙ length-bytes_of words in omega (arith, many, order, within, l, length-drop from bytes)) ∙ many) (λ j few. each j few)
   where
     each : (j : ℕ) → j < to - from → slice_index (take k (drop from bytes)) j ≡ list_byte words (from + j)
     each j few =

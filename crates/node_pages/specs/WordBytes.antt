@@ -1,12 +1,6 @@
--- Bytes of words, and bytes over others.
+-- Bytes of a list of words, and bytes over others.
 use Rattle.std.specs.Prelude.{ℕ, ◌+◌, ◌-◌, ◌/◌, ◌%◌, ◌&&◌, nat_le, nat_lt, if◌then◌else◌, List, slice_index}
-use Rattle.std.specs.List.{flat_map}
-use Rattle.byteorder.specs.Endian.{little_bytes}
 use Rattle.rio_model.specs.Held.{byte_of}
-
--- the bytes of words, in order
-abbrev pub bytes_of : List ℕ → List ℕ
-bytes_of words = flat_map (little_bytes 8) words
 
 -- byte y of a list of words
 abbrev pub list_byte : List ℕ → ℕ → ℕ

@@ -1,5 +1,6 @@
 pub mod BytesIn
 pub mod Endings
+pub mod FreshVolumes
 pub mod ImageLayouts
 pub mod LeftFiles
 pub mod LeftMachines

@@ -1,5 +1,6 @@
 pub mod Cuts
 pub mod Digits
+pub mod Entries
 pub mod FarSteps
 mod FewDigits
 pub mod Gathering

@@ -10,7 +10,7 @@ use Rattle.byteorder.specs.Numbers.{little_from-take, little_number-reads_back}
 use Rattle.rio_base.specs.Bytes.{bytes_of, word_at}
 
 -- a front of bytes is bytes
-fits_front : (n : ℕ) (xs : List ℕ) → ((i : ℕ) → get_or xs i 0 < 256) → (i : ℕ) → get_or (take n xs) i 0 < 256
+pub fits_front : (n : ℕ) (xs : List ℕ) → ((i : ℕ) → get_or xs i 0 < 256) → (i : ℕ) → get_or (take n xs) i 0 < 256
 fits_front n xs fits i = elim (cases_lt i n) [
   | inl below ↦ omega (arith, get_or-take n xs i 0 below, fits i)
   | inr above ↦ omega (arith, get_or_past (take n xs) i 0 (omega (arith, length-take n xs)))

@@ -1,23 +1,19 @@
 -- The files of a fresh image and a fresh volume are a pair, which stands for the root directory alone.
-use Rattle.std.proofs.Common.{◌≡◌, ◌≢◌, ℕ, ◌+◌, ◌-◌, ◌*◌, ◌/◌, ◌%◌, ◌^◌, ◌<◌, ◌≤◌, ◌==◌, ◌⊎◌, Bool, true, false, cond, List, length, take, drop, slice_index, min, refl, sym, ap, subst, ◌∙◌, arith, inl, inr, eqb-true, pow_mono, get_or-take, length-drop, length-take-le}
-use Rattle.std.specs.Prelude.{[], Option, Some, nat_lt, if◌then◌else◌}
+use Rattle.std.proofs.Common.{◌≡◌, ◌≢◌, ℕ, ◌+◌, ◌-◌, ◌*◌, ◌/◌, ◌%◌, ◌^◌, ◌<◌, ◌≤◌, ◌==◌, Bool, true, false, cond, List, length, take, drop, slice_index, min, refl, sym, ap, subst, ◌∙◌, arith, inl, inr, pow_mono, get_or-take, length-drop, length-take-le}
+use Rattle.std.specs.Prelude.{[], Option, Some}
 use Rattle.std.specs.FinMap.{insert}
-use Rattle.std.proofs.lemmas.Bool.{cases_eq, cases_lt}
+use Rattle.std.proofs.lemmas.Bool.{cases_lt}
 use Rattle.std.proofs.lemmas.Bool.Decides.{nat_tests}
 use Rattle.std.proofs.lemmas.List.{get_or_past, take-append-drop}
 use Rattle.std.proofs.lemmas.List.FromFn.{get_or-map-range_with_len, length-map-range_with_len}
 use Rattle.rio_base.specs.declared.places.VolumeShape.{VolumeShape}
-use Rattle.rio_base.specs.Bitmap.{bitmap_block, used_bit}
-use Rattle.std.specs.Int.{bit_at}
-use Rattle.rio_base.proofs.Bitmap.{first_bitmap}
-use Rattle.rio_base.specs.Blocks.{BlockWords}
 use Rattle.rio_base.specs.Bytes.{bytes_of}
 use Rattle.rio_base.specs.Disks.{blocks_of, is_pending}
 use Rattle.rio_base.specs.Hosts.{Files, with_file}
 use Rattle.rio_base.specs.Image.{AreImageSizes, entry_at, image_magic, image_pages, registry_pages}
-use Rattle.rio_base.specs.Layout.{inode_block, inode_place, volume_magic}
+use Rattle.rio_base.specs.Layout.{volume_magic}
 use Rattle.rio_base.specs.Rules.{true_false}
-use Rattle.rio_base.specs.Shapes.{IsServed, more_bitmap, reserved}
+use Rattle.rio_base.specs.Shapes.{IsServed, reserved}
 use Rattle.rio_base.proofs.WordBlocks.{blocks_many, blocks_word}
 use Rattle.image_codec.specs.Image.{IsImage, fresh_image_word, fresh_image_words}
 use Rattle.image_codec.specs.Volume.{bitmap_word, block_words, fresh_shape, fresh_volume_word, fresh_volume_words, superblock_word}
@@ -26,14 +22,13 @@ use Rattle.rio_model.specs.Cover.{home_word}
 use Rattle.rio_model.specs.Fresh.{IsFreshVolume}
 use Rattle.rio_model.specs.Registry.{HasLayout, KeepsRegistry, frames_of, gate_of, is_valid, tag_at}
 use Rattle.rio_model.specs.Standing.{Restorable}
-use Rattle.rio_model.specs.VolumeRules.{bitmap_bits}
 use Rattle.rio_model.proofs.FreshPair.{IsFreshPair, fresh_stands}
 use Rattle.rio_model.proofs.RegistryRules.{layout_of}
-use Rattle.rio_model.proofs.WordRules.{differs}
 use Rattle.pair_files.specs.Images.{IsImageOf}
 use Rattle.pair_files.specs.Pairs.{AreBlocksIn, HasPair, IsPair, pair_machine}
 use Rattle.pair_files.proofs.BytesIn.{AreWords, blocks_of_in}
 use Rattle.pair_files.proofs.LeftFiles.{with_beside, with_here_told}
+use Rattle.pair_files.proofs.FreshVolumes.{volume_is, volume_long, volume_same}
 use Rattle.rio_commands.specs.declared.formatting.FormatSizes.{FormatSizes}
 use Rattle.rio_commands.specs.declared.formatting.FormatEnd.{FormatEnd}
 use Rattle.rio_commands.specs.declared.formatting.FormatEnd.TheVariants.{Formatted, DiskFault, ImageFault, Memory}
@@ -176,133 +171,25 @@ fresh_restorable frames scratch blocks h =
 
 -- ---- the volume
 
-volume_long : (blocks inodes : ℕ) → length (fresh_volume_words blocks inodes) ≡ 512 * blocks
-volume_long blocks inodes = length-map-range_with_len (λ i. fresh_volume_word blocks inodes (i / 512) (i % 512)) 0 (512 * blocks)
-
 volume_at : (blocks inodes i : ℕ) → i < 512 * blocks → slice_index (fresh_volume_words blocks inodes) i ≡ fresh_volume_word blocks inodes (i / 512) (i % 512)
 volume_at blocks inodes i less = get_or-map-range_with_len (λ j. fresh_volume_word blocks inodes (j / 512) (j % 512)) 0 (512 * blocks) i i 0 less (omega arith)
 
 volume_fits : (blocks inodes : ℕ) → blocks ≤ 32768 → inodes ≤ 32768 → AreWords (fresh_volume_words blocks inodes)
-volume_fits blocks inodes few little = fits_within (fresh_volume_words blocks inodes) (512 * blocks) (volume_long blocks inodes)
+volume_fits blocks inodes few little = fits_within (fresh_volume_words blocks inodes) (512 * blocks) (volume_long (fresh_volume_words blocks inodes) blocks inodes refl)
     (λ i less. subst (λ v. v < 2 ^ 64) (sym (volume_at blocks inodes i less)) (volume_word_fits blocks inodes (i / 512) (i % 512) few little))
-
-word_is : (blocks inodes b w : ℕ) → b < blocks → w < 512 → block_words (fresh_volume_words blocks inodes) b w ≡ fresh_volume_word blocks inodes b w
-word_is blocks inodes b w within small =
-    volume_at blocks inodes (512 * b + w) (omega (arith, within, small))
-    ∙ ap (λ c. fresh_volume_word blocks inodes c ((512 * b + w) % 512)) (own b w small) ∙ ap (fresh_volume_word blocks inodes b) (place b w small)
-  where
-    own : (b w : ℕ) → w < 512 → (512 * b + w) / 512 ≡ b
-    own b w small = omega (arith, small)
-
-    place : (b w : ℕ) → w < 512 → (512 * b + w) % 512 ≡ w
-    place b w small = omega (arith, small)
-
-past_both : (a b c : Bool) (p q r : ℕ) → a ≡ false → b ≡ false → (c ≡ true → r ≡ 0) → cond a p (cond b q (cond c r 0)) ≡ 0
-past_both true b c p q r ea eb zero = absurd (true_false ea)
-past_both false true c p q r ea eb zero = absurd (true_false eb)
-past_both false false true p q r ea eb zero = zero refl
-past_both false false false p q r ea eb zero = refl
-
--- word w of the block of the root
-abbrev root_word : ℕ → ℕ
-root_word w = if w == 0 then 1 else 0
-
--- no word of an inode but the first of the root is set
-zero_word : (blocks inodes b w : ℕ) → 2 ≤ b → (b ≢ 2) ⊎ (w ≢ 0) → fresh_volume_word blocks inodes b w ≡ 0
-zero_word blocks inodes b w from out = past_both (b == 0) (b == 1) (b == 2) _ _ (root_word w) (differs b 0 (λ e. omega (arith, from, e))) (differs b 1 (λ e. omega (arith, from, e))) (λ e. third out (eqb-true b 2 e))
-  where
-    third : (b ≢ 2) ⊎ (w ≢ 0) → b ≡ 2 → root_word w ≡ 0
-    third (inl away) two = absurd (away two)
-    third (inr off) two = ap (λ t. if t then 1 else 0) (differs w 0 off)
-
-first_only : (i : ℕ) → 1 < i → (inode_block i ≢ 2) ⊎ (inode_place i + 0 ≢ 0)
-first_only i past = elim (cases_eq ((i - 1) / 32) 0) [
-  | inl first ↦ inr (λ e. omega (arith, e, first, past))
-  | inr later ↦ inl (λ e. omega (arith, e, later))
-]
-
-inode_within : (shape : VolumeShape) (i : ℕ) → IsServed shape → i ≤ shape.inodes → inode_block i < shape.blocks
-inode_within shape i h within = let from = h.sizes.blocks_from in let whole = h.sizes.inode_blocks in let least = h.sizes.inodes_from in omega (arith, within, from, whole, least)
-
-inode_small : (i : ℕ) → inode_place i + 0 < 512
-inode_small i = omega arith
-
-low_within : (shape : VolumeShape) (b : ℕ) → IsServed shape → b ≤ 2 → b < shape.blocks
-low_within shape b h low = let from = h.sizes.blocks_from in omega (arith, low, from)
-
-first_reserved : (shape : VolumeShape) → IsServed shape → reserved shape ≡ 2 + shape.inodes / 32
-unfolding more_bitmap
-first_reserved shape h = ap (λ v. 2 + shape.inodes / 32 + cond (v == 2) 7 0) h.version ∙ none
-  where
-    none : 2 + shape.inodes / 32 + 0 ≡ 2 + shape.inodes / 32
-    none = omega arith
-
-first_bits : (shape : VolumeShape) → IsServed shape → bitmap_bits shape ≡ 32768
-unfolding more_bitmap
-first_bits shape h = ap (λ v. 32768 * (1 + cond (v == 2) 7 0)) h.version
-
-reserved_low : (shape : VolumeShape) (b : ℕ) → IsServed shape → b < reserved shape → b < 32768
-reserved_low shape b h low = let few = first_reserved shape h in let from = h.sizes.blocks_from in let to = h.sizes.blocks_to in omega (arith, low, few, from, to)
-
-bits_low : (shape : VolumeShape) (b : ℕ) → IsServed shape → b < bitmap_bits shape → b < 32768
-bits_low shape b h within = subst (λ n. b < n) (first_bits shape h) within
-
--- the bit of block b where the first n are used
-abbrev bit_of : ℕ → ℕ → ℕ
-bit_of b n = if nat_lt b n then 1 else 0
-
-bit_low : (b n : ℕ) → b < n → bit_of b n ≡ 1
-bit_low b n less = grind (arith, nat_tests, less)
-
-bit_high : (b n : ℕ) → n ≤ b → bit_of b n ≡ 0
-bit_high b n more = grind (arith, nat_tests, more)
 
 fresh_volume_of : (shape : VolumeShape) → IsServed shape → IsFreshVolume shape (block_words (fresh_volume_words shape.blocks shape.inodes))
 fresh_volume_of shape h =
     let room : 3 ≤ shape.blocks = (let from = h.sizes.blocks_from in omega (arith, from)) in
-    let marked : (b : ℕ) → b < 32768 → used_bit shape (block_words (fresh_volume_words shape.blocks shape.inodes)) b ≡ bit_of b (reserved shape) = λ b less. marked_in (fresh_volume_words shape.blocks shape.inodes) shape b refl h.version room less in
-    record {
-      superblock = record { sizes = h.sizes; words = superblock_in (fresh_volume_words shape.blocks shape.inodes) shape refl h.version room };
-      low = λ b low. marked b (reserved_low shape b h low) ∙ bit_low b (reserved shape) low;
-      high = λ b past within. marked b (bits_low shape b h within) ∙ bit_high b (reserved shape) past;
-      root_kind = word_is shape.blocks shape.inodes 2 0 (low_within shape 2 h (omega arith)) (omega arith);
-      root_size = word_is shape.blocks shape.inodes 2 1 (low_within shape 2 h (omega arith)) (omega arith);
-      others = λ i past within. word_is shape.blocks shape.inodes (inode_block i) (inode_place i + 0) (inode_within shape i h within) (inode_small i) ∙ zero_word shape.blocks shape.inodes (inode_block i) (inode_place i + 0) (omega arith) (first_only i past);
-    }
-
--- a fresh volume is known by the words of its blocks
-volume_same : (shape : VolumeShape) (f g : BlockWords) → IsServed shape → ((b w : ℕ) → b < shape.blocks → w < 512 → g b w ≡ f b w) → IsFreshVolume shape f → IsFreshVolume shape g
-volume_same shape f g h same v = record {
-  superblock = record {
-    sizes = h.sizes;
-    words = record {
-      magic = first 0 (omega arith) ∙ v.superblock.words.magic;
-      version = first 1 (omega arith) ∙ v.superblock.words.version;
-      blocks = first 2 (omega arith) ∙ v.superblock.words.blocks;
-      inodes = first 3 (omega arith) ∙ v.superblock.words.inodes;
-    };
-  };
-  low = λ b low. bit b (reserved_low shape b h low) ∙ v.low b low;
-  high = λ b past within. bit b (bits_low shape b h within) ∙ v.high b past within;
-  root_kind = same 2 0 (low_within shape 2 h (omega arith)) (omega arith) ∙ v.root_kind;
-  root_size = same 2 1 (low_within shape 2 h (omega arith)) (omega arith) ∙ v.root_size;
-  others = λ i past within. same (inode_block i) (inode_place i + 0) (inode_within shape i h within) (inode_small i) ∙ v.others i past within;
-}
-  where
-    first : (w : ℕ) → w < 512 → g 0 w ≡ f 0 w
-    first w small = same 0 w (low_within shape 0 h (omega arith)) small
-
-    bit : (b : ℕ) → b < 32768 → used_bit shape g b ≡ used_bit shape f b
-    bit b low =
-        let one : bitmap_block shape b ≡ 1 = first_bitmap shape b low in
-        ap (λ x. bit_at x (b % 64)) (same (bitmap_block shape b) (b % 32768 / 64) (low_within shape (bitmap_block shape b) h (omega (arith, one))) (omega arith))
+    volume_is shape (fresh_volume_words shape.blocks shape.inodes) h refl (superblock_in (fresh_volume_words shape.blocks shape.inodes) shape refl h.version room)
+    (λ b less. marked_in (fresh_volume_words shape.blocks shape.inodes) shape b refl h.version room less)
 
 -- the blocks of the disk
 abbrev disk_blocks : VolumeShape → List (List ℕ)
 disk_blocks shape = blocks_of (fresh_volume_words shape.blocks shape.inodes)
 
 many : (shape : VolumeShape) → length (fresh_volume_words shape.blocks shape.inodes) / 512 ≡ shape.blocks
-many shape = let long = volume_long shape.blocks shape.inodes in omega (arith, long)
+many shape = let long = volume_long (fresh_volume_words shape.blocks shape.inodes) shape.blocks shape.inodes refl in omega (arith, long)
 
 disk_volume : (shape : VolumeShape) → IsServed shape → IsFreshVolume shape (home_word (disk_blocks shape))
 disk_volume shape h =
@@ -311,7 +198,7 @@ disk_volume shape h =
     (fresh_volume_of shape h)
 
 disk_in : (shape : VolumeShape) → IsServed shape → AreBlocksIn (bytes_of (fresh_volume_words shape.blocks shape.inodes)) (disk_blocks shape)
-disk_in shape h = blocks_of_in (fresh_volume_words shape.blocks shape.inodes) shape.blocks (volume_long shape.blocks shape.inodes) (volume_fits shape.blocks shape.inodes h.sizes.blocks_to h.sizes.inodes_to)
+disk_in shape h = blocks_of_in (fresh_volume_words shape.blocks shape.inodes) shape.blocks (volume_long (fresh_volume_words shape.blocks shape.inodes) shape.blocks shape.inodes refl) (volume_fits shape.blocks shape.inodes h.sizes.blocks_to h.sizes.inodes_to)
 
 -- ---- the pair
 

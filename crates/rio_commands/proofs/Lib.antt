@@ -1,5 +1,4 @@
 pub mod Checking
-mod Entries
 mod FormatEnds
 pub mod FreshPairs
 mod InputLines

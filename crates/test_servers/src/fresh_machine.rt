@@ -24,7 +24,7 @@ use std::alloc::{AllocError, Global};
 pub type MemBoard = Board<Memory, MemDisk>;
 
 /// A disk with a fresh volume of this shape, of which no call is to fail. The error means that there was no room for it.
-#[tactic(auto, using(crate::proofs::FreshMachineDisks::volume_long))]
+#[tactic(auto, using(pair_files::proofs::FreshVolumes::volume_long))]
 pub fn fresh_disk(alloc: Global, shape: &VolumeShape) -> Result<MemDisk, AllocError>
     requires { IsServed shape.now }
     ensures fresh { IfOk result (λ d. IsFreshDisk shape.now (state_of d).blocks (state_of d).pending) }

@@ -1,7 +1,8 @@
 use Rattle.std.proofs.Common.{◌≡◌, arith}
 use Rattle.request_codec.proofs.Sendings.{puts_cut}
 use Rattle.boots.specs.Summaries.{refusal_line, refusal_lines}
-use Rattle.boots.proofs.Listing.{entries_cut, entries_more, lines_are}
+use Rattle.request_codec.proofs.Entries.{entries_cut, entries_more}
+use Rattle.boots.proofs.Listing.{lines_are}
 use Rattle.boots.proofs.summary.put_refusals.Goals as goal
 
 pub returns-in_err-held : goal.returns-in_err-held

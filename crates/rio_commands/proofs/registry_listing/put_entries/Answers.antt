@@ -1,7 +1,7 @@
 use Rattle.std.proofs.Common.{arith}
 use Rattle.request_codec.proofs.Sendings.{puts_cut}
 use Rattle.rio_commands.specs.Registry.{entry_line}
-use Rattle.rio_commands.proofs.Entries.{entries_cut, entries_more}
+use Rattle.request_codec.proofs.Entries.{entries_cut, entries_more}
 use Rattle.rio_commands.proofs.registry_listing.put_entries.Goals as goal
 
 pub returns-in_err-held : goal.returns-in_err-held
