@@ -1,4 +1,4 @@
-//! What there is on a volume that was left.
+//! What there is on the volume that a run of boots left, counted.
 
 ghost use Rattle.std.specs.Prelude.{◌≡◌, ◌≤◌, ℕ, IfOk, None, false, length};
 ghost use Rattle.std.specs.FinMap.{get};

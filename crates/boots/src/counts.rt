@@ -1,4 +1,4 @@
-//! What is counted of a drill's boots and replies.
+//! What a drill's summary counts: boots that stopped, and replies by their kind.
 
 ghost use Rattle.std.specs.Prelude.{◌≡◌, ◌<◌, ◌^◌, count_by, length};
 ghost use Rattle.boots.specs.Summaries.{is_ok as ok, is_refusal as refusal, is_stopped as stopped, passing_count, reply_count};

@@ -1,4 +1,4 @@
-//! The plan of one boot of a drill.
+//! The plan of one boot of a drill, drawn.
 
 ghost use Rattle.std.specs.Prelude.{◌≡◌, IfOk};
 ghost use Rattle.boots.specs.Plans.{boot_plan, cut_boot, last_boot, some_requests};

@@ -1,4 +1,4 @@
-//! The plan of a drill.
+//! The plan of a drill, drawn from a seed.
 
 ghost use Rattle.std.specs.Prelude.{◌≡◌, ◌<◌, IfOk};
 ghost use Rattle.boots.specs.Plans.{last_boots, plan_of, share};

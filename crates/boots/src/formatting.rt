@@ -1,4 +1,4 @@
-//! A fresh volume in memory.
+//! Memory and a disk with a fresh volume, before the first boot.
 
 ghost use Rattle.std.specs.Prelude.{◌≡◌, ◌*◌, IfOk, length};
 ghost use Rattle.block_disk.specs.MemDisks.{state_of, words_state};

@@ -1,5 +1,6 @@
-//! Many boots in one call: a fresh volume in memory is served boot after boot, and stops and fails as a plan says. What such a run is
-//! told and what it tells are plans and transcripts; a drill draws its plan from a seed, and tells its transcript in a few lines.
+//! Many boots in one call: a fresh volume in memory is served boot after boot, and stops and fails as a plan says. A plan
+//! is what such a run is told, and a transcript what it tells. A drill draws its plan from a seed, and tells its transcript
+//! in a few lines.
 #![tactic(auto)]
 
 mod booting;

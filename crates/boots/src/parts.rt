@@ -1,4 +1,4 @@
-//! What passes from one boot to the next.
+//! The memory and the disk of a machine, as they pass from one boot to the next.
 
 ghost use Rattle.std.specs.Prelude.{◌≡◌, ◌<◌, ◌*◌, ◌%◌, ℕ, length};
 ghost use Rattle.block_disk.specs.BlockLists.{AreWhole};

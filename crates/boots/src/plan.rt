@@ -1,4 +1,4 @@
-//! What a run of many boots is told.
+//! Plans: what a run of many boots is told.
 
 use block_disk::DiskChoice;
 use rio_base::Items;

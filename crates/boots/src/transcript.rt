@@ -1,4 +1,4 @@
-//! What a run of many boots tells.
+//! Transcripts: what a run of many boots tells.
 
 use rio_base::Items;
 use rio_model::Census;

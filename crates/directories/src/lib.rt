@@ -1,5 +1,5 @@
-//! Directories: entries as the words of their pages; names looked up, listed, and read to be held in memory; rows that are added,
-//! set or removed, by changes that are prepared and then made in an update.
+//! Directories: entries as the words of their pages; names looked up, listed, and read to be held in memory; rows that are
+//! added, set or removed, by changes that are prepared and then made in an update.
 #![tactic(auto)]
 
 mod applying;

@@ -1,5 +1,7 @@
-//! What a drill draws, and plans of drawn requests that are run, in one boot or more, over the volume of a drill. The script is the
-//! program's input. Its output has each line of it and below it, four spaces further in, what came of it. What is drawn:
+//! What a drill draws, and plans of drawn requests that are run, in one boot or more, over the volume of a drill. The
+//! script is the program's input. Its output has each line of it and below it, four spaces further in, what came of it.
+//!
+//! What is drawn:
 //!
 //! - `seed N`: nothing. What follows is drawn from this number on.
 //! - `draws N`: so many numbers.

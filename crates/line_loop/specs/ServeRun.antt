@@ -73,7 +73,7 @@ pub record ServeRun {Request Reply State : Type 0} (p : Protocol Request Reply S
   pub replied : Replied p s answered replies t
   pub finish : Finishes p.text end taken left answered replies out
 
--- The same, by what the source has left and what the sink has taken, before and after.
+-- A run from s to t, told by what the source has left and what the sink has taken, before and after.
 pub record Serves {Request Reply State : Type 0} (p : Protocol Request Reply State) (s t : State) (end : ServeEnd) (left left_after written written_after : Option (List ℕ)) : Type 0 where
   pub taken : List ℕ
   pub out : List ℕ

@@ -1,9 +1,9 @@
-//! Command lines and what each is read as; sessions of request lines, answered by the plain definition of the server; and rows of how
-//! lines are read and replies are written. The script is the program's input. Its output has each line of the script and below it, four spaces further
-//! in, what that line comes to:
+//! Command lines, and what each is read as; sessions of request lines, answered by the plain definition of the server; and
+//! rows of how lines are read and replies are written. The script is the program's input. Its output has each line of the
+//! script and below it, four spaces further in, what that line comes to:
 //!
-//! - `$ WORDS`: the command that the words of a command line are read as, or `usage`. One space stands between two words, so that
-//!   two spaces have an empty word between them. `$` alone is no words.
+//! - `$ WORDS`: the command that the words of a command line are read as, or `usage`. One space stands between two words,
+//!   so that two spaces have an empty word between them. `$` alone is no words.
 //! - `volume N`: a new session, over the root directory alone, on N blocks.
 //! - `> LINE`: the reply to a request line in that session. `max> LINE`: the same with 2^64 - 1 as the line's offset or
 //!   size, which no line can have.

@@ -1,4 +1,4 @@
-//! Calls of the disk that is open.
+//! Calls of the disk that is open, as a line of the script has them.
 
 use block_disk::HostDisk;
 use rio_base::{Block, DiskBlocks, Failed, Host};

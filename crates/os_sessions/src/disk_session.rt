@@ -1,4 +1,4 @@
-//! A session: lines of a script make a file, open it as a disk, call that, and ask what came.
+//! A session with a disk that is a file: lines of a script make the file, open it, call the disk, and ask what came.
 
 use crate::disk_calls::call;
 use block_disk::{HostDisk, HostDiskFail};

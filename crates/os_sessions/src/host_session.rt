@@ -1,4 +1,4 @@
-//! Sessions: lines of a script put files into a folder, make calls of a host over them, and ask what came.
+//! Sessions with a host: lines of a script put files into a folder, make calls of a host over them, and ask what came.
 
 use crate::folder::{clear, free_folder};
 use crate::host_calls::{is_call, make_call};

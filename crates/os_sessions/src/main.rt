@@ -1,6 +1,6 @@
-//! Sessions over the operating system: calls over its files and over streams, calls of a disk that is a file, and runs of the program
-//! over files. What a script says is done, and what came is printed under each line. The script has three parts, in this order,
-//! each but the first behind a line that names it.
+//! Sessions over the operating system: calls over its files and over streams, calls of a disk that is a file, and runs of
+//! the program over files. What a script says is done, and what came is printed under each line. The script is the
+//! program's input. It has these three parts, in this order; a line that names it stands before each but the first.
 #![tactic(auto)]
 
 mod disk_calls;

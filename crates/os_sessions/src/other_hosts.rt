@@ -1,4 +1,4 @@
-//! Hosts beside that of a session, as those of other runs are.
+//! Hosts beside the one of a session, as those of other runs are.
 
 use crate::host_calls::make_call;
 use rio_os::{OsHost, host_for, tell_in_use};

@@ -1,4 +1,4 @@
-//! What a session has beside its host: what stands in its folder, what came of it, and what needs neither.
+//! What a session with a host has beside that: what stands in its folder, what came of it, and what needs neither.
 
 use crate::folder::tell_names;
 use crate::host_calls::tell_both;

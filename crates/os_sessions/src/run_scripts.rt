@@ -1,5 +1,5 @@
-//! Runs of the program over files of the operating system: what a script says is put under the names of a pair and run, and what
-//! came is printed under each line.
+//! Runs of the program over files of the operating system: what a script says is put under the names of a pair and run,
+//! and what came is printed under each line.
 
 use crate::run_session::Session;
 use std::alloc::AllocError;

@@ -1,4 +1,5 @@
-//! A session: lines of a script put something under the names of a pair, run the program over it, and ask what came.
+//! A session of runs: lines of a script put something under the names of a pair, run the program over it, and ask what
+//! came.
 
 use crate::run_words::{NameWord, ReadWord, Word};
 use crate::runs::{push_words, tell_run};

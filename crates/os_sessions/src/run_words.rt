@@ -1,4 +1,4 @@
-//! The words of the script.
+//! The words of a script of runs.
 
 use rio_os::FileLock;
 

@@ -1,4 +1,5 @@
-//! The store of a word.
+//! The store of a word while no update is open. The block's page is fetched, marked dirty and given the larger size first,
+//! so that a stop between two steps loses nothing.
 
 ghost use Rattle.cached_pages.specs.Caches.{CacheSound, FewWrites, cache_below, cache_health, cache_kept, cache_seen};
 ghost use Rattle.cached_pages.specs.Uses.{AllStay, DirtiesOnly, FailedUse, LeavesOldest, UsedLast};

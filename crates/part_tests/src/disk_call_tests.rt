@@ -1,4 +1,4 @@
-//! Calls of a disk whose host fails, and what the file has after them.
+//! Calls of a disk that is a file, whose host fails, and what the file has after them.
 
 use crate::disk_rig::{Call, Said, file_words, host_of, make, open};
 use crate::same::same;

@@ -1,4 +1,5 @@
-//! Drawn calls of a disk, of whose host's calls each fails in turn, beside a plain list of what each block has.
+//! Drawn calls of a disk that is a file, of whose host's calls each fails in turn, beside a plain list of what each block
+//! has.
 
 use crate::disk_rig::{Call, Said, file_words, host_of, make, open};
 use crate::same::same;

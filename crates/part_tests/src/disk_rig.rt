@@ -1,4 +1,4 @@
-//! A host in memory with a file and one beside it, and a disk that is the first.
+//! For the tests of a disk that is a file: a host in memory with a file and one beside it, and a disk that is the first.
 
 ghost use Rattle.std.specs.Prelude.{◌<◌};
 

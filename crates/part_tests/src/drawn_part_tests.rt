@@ -1,4 +1,4 @@
-//! Drawn calls of the pool, beside a plain pool that searches lists.
+//! Drawn calls of the pool of frames, beside a plain pool that searches lists.
 
 ghost use Rattle.std.specs.Prelude.{◌≡◌, ◌≢◌, ◌<◌, ◌≤◌, ℕ, Some, false, slice_index_or};
 ghost use Rattle.frame_pool.specs.Pools.{NoneFree, block_of, blocks_in, frames_in, is_pinned, pins_in};

@@ -1,4 +1,4 @@
-//! Tests of the pool.
+//! Tests of the pool of frames.
 
 ghost use Rattle.std.specs.Prelude.{◌≡◌, ◌≢◌, ◌<◌, ◌≤◌, ℕ, Some, None, IfOk, false, slice_index_or};
 ghost use Rattle.frame_pool.specs.Pools.{NoneFree, block_of, blocks_in, frames_in, is_pinned, pins_in};

@@ -1,4 +1,4 @@
-//! Changes of memory, as they are drawn.
+//! Drawn changes of memory that is held in a file.
 
 ghost use Rattle.std.specs.Prelude.{◌<◌};
 

@@ -1,4 +1,4 @@
-//! What is left where a call of the host fails.
+//! What memory that is held in a file leaves there where a call of the host fails.
 
 use crate::held_changes::{Change, drawn, make};
 use crate::held_plain::Plain;

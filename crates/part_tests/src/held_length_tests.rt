@@ -1,4 +1,4 @@
-//! Files of other lengths, and none.
+//! Memory that is held in a file of another length, or in none.
 
 use crate::held_rig::{drawn_words, held, host_of, image};
 use crate::same::same;

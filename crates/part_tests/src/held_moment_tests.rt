@@ -1,4 +1,4 @@
-//! What the file is at each moment while memory is changed.
+//! What the file that holds a memory is at each moment while that is changed.
 
 use crate::held_changes::{WORDS, drawn, make};
 use crate::held_plain::Plain;

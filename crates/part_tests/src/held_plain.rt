@@ -1,4 +1,4 @@
-//! A plain list of words, changed one word after the other.
+//! A plain list of words, changed one word after the other, beside which memory in a file is changed.
 
 use crate::held_changes::Change;
 use std::alloc::AllocError;

@@ -1,4 +1,4 @@
-//! What no clause says: the bytes as they stand in a file, and that each call succeeds.
+//! What no clause says of the files of a fresh image and a fresh volume: their bytes, and that each call succeeds.
 
 ghost use Rattle.std.specs.Prelude.{IfOk, length, ◌≤◌};
 ghost use Rattle.rio_base.specs.Image.{AreImageSizes};

@@ -1,6 +1,6 @@
-//! Tests of small parts, each by itself: memory and memory that a file follows, disks, dumps, wild stores, the pool of frames, the bytes of an
-//! image and of a volume, the registry, lists of names, the objects in memory for tests, and the loop of lines. They stand above these
-//! crates, so that each of them is proved once.
+//! Tests of small parts, each by itself: memory, and memory that a file follows; disks, dumps and wild stores; the pool of
+//! frames; the bytes of an image and of a volume; the registry; lists of names; the objects in memory for tests; and the
+//! loop of lines. They stand above these crates, so that each of them is proved once.
 #![tactic(auto)]
 
 #[cfg(test)]

@@ -1,4 +1,4 @@
-//! A dump that meets a stop or a fault at each of its steps and calls, and what the disk holds after a crash.
+//! Dumps that meet a stop or a fault at each of their steps and calls, and what the disk holds after a crash.
 
 use crate::dump_rig::{Came, Held, Images, Meets, both_images, run};
 use crate::same::same;

@@ -1,4 +1,5 @@
-//! Memory and disk that are made by hand: 32 frames, one page of scratch, and a volume of 16 blocks with a file of two pages.
+//! Looks at memory and disk that are made by hand, with what must be found: 32 frames, one page of scratch, and a volume of
+//! 16 blocks with a file of two pages.
 
 ghost use Rattle.std.specs.Prelude.{◌≡◌, ◌<◌, ◌≤◌, ◌-◌, ◌%◌, None, IfOk, IsTrue, length};
 ghost use Rattle.phys_memory.specs.ListMem.{words_of};

@@ -1,5 +1,5 @@
-//! Reboots of pairs of memory and disk that are made by hand, stopped at each of their steps, and with each of their calls on
-//! the disk failing; and which rule of such a pair is told first.
+//! Reboots of pairs of memory and disk that are made by hand: stopped at each of their steps, and with each of their calls
+//! on the disk failing. Beside them the looks at such pairs: what is counted, or which rule fails first.
 #![tactic(auto)]
 
 #[cfg(test)]

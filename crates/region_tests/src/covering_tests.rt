@@ -1,4 +1,5 @@
-//! Tests of which places records cover together, and of how many records are read for it: each at most once.
+//! Tests of which places the records of an undo list cover together, and of how many records are read for it: each at most
+//! once.
 
 ghost use Rattle.std.specs.Prelude.{IfOk};
 ghost use Rattle.rio_model.specs.Undo.{IsRegion};

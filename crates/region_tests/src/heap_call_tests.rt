@@ -1,4 +1,4 @@
-//! Runs of blocks taken and given back, with each answer as it must be.
+//! Runs of calls that take blocks of a heap and give them back, with each answer as it must be.
 
 use crate::heap_calls::Call::{Abort, Block, Commit, Give, Room, Take};
 use crate::heap_calls::Said::{

@@ -1,4 +1,4 @@
-//! Rows of calls with the answers that must come.
+//! Rows of calls on a heap, with the answers that must come.
 
 ghost use Rattle.std.specs.Prelude.{OnOk};
 ghost use Rattle.rio_model.specs.Undo.{IsRegion};

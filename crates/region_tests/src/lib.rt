@@ -1,5 +1,5 @@
-//! Tests of what stands on a region's words: its undo list, its heap, beside a plain heap, and transactions. The regions are in memory,
-//! and their calls are stopped and fail one after the other.
+//! Tests of what stands on a region's words: its undo list; its heap, beside a plain heap; and transactions. The regions
+//! are in memory, and their calls are stopped and fail one after the other.
 #![tactic(auto)]
 
 #[cfg(test)]

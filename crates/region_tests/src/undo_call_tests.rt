@@ -1,4 +1,4 @@
-//! Tests of calls that none below fails.
+//! Tests of calls on an undo list below which no call fails.
 
 use crate::undo_calls::Call::{Change, ChangeByHeaders, Covered, Rewind, Room, Save, Word};
 use crate::undo_calls::DATA;

@@ -1,4 +1,4 @@
-//! Stops and faults at each call below a call, and what holds after them.
+//! Stops and faults at each call below a call on an undo list, and what holds after them.
 
 ghost use Rattle.rio_model.specs.Undo.{IsRegion};
 ghost use Rattle.test_objects.specs.FaultyRegions.{FaultyReady, faulty_content};

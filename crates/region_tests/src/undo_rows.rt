@@ -1,4 +1,4 @@
-//! Rows of calls with the answers that must come.
+//! Rows of calls on an undo list, with the answers that must come.
 
 ghost use Rattle.rio_model.specs.Undo.{IsRegion};
 

@@ -39,7 +39,7 @@ stopped_line steps = field (codes "stopped ") steps ++ codes "\n"
 abbrev pub trapped_line : ℕ → List ℕ
 trapped_line at = field (codes "trapped ") at ++ codes "\n"
 
--- without a stop that was given none is told: see `stopped` of ServeCauses, in rio_commands
+-- without a stop that was given none is told: see `stopped` of ServeCauses, in Serve.antt
 abbrev pub stop_line : Option ℕ → List ℕ
 stop_line (Some steps) = stopped_line steps
 stop_line None = []

@@ -1,4 +1,4 @@
-//! How commands end.
+//! How `registry` and `check` end.
 
 use pair_files::PairFile;
 use rio_base::Block;

@@ -1,4 +1,4 @@
-//! Formatting: a fresh memory image and a fresh volume, as two files.
+//! The command `format`: a fresh memory image and a fresh volume, as two files.
 
 ghost use Rattle.std.specs.Prelude.{◌≡◌, ◌≤◌, ℕ, IfOk, String as StringOf, List};
 ghost use Rattle.std.specs.String.{string_bytes};

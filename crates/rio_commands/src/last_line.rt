@@ -1,4 +1,4 @@
-//! The line that ends a run.
+//! A line that ends a run, and its status.
 
 ghost use Rattle.std.specs.Prelude.{◌≡◌, ◌≤◌};
 ghost use Rattle.rio_base.specs.Failures.{Rose};

@@ -1,5 +1,5 @@
-//! The commands over a pair of files: `serve`, which serves lines over one; `format`, `registry` and `check`, which make one or look at
-//! it; and the line and the exit status that tell how each ended.
+//! The commands over a pair of files: `serve` serves lines over one, `format` makes one, `registry` and `check` look at
+//! one. Each ends with a line and an exit status that tell how it ended.
 #![tactic(auto)]
 
 mod check_command;

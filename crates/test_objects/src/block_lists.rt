@@ -6,7 +6,7 @@ ghost use Rattle.rio_base.specs.Memory.{FrontStored};
 use rio_base::{BLOCK_WORDS, Block};
 use std::alloc::{AllocError, Global};
 
-/// How many blocks a walked volume has.
+/// How many blocks such a volume has.
 pub const BLOCKS: u32 = 64;
 
 /// Words in all blocks.

@@ -1,5 +1,6 @@
-//! Objects in memory for tests: a source, a sink and a host, two volumes, regions, and readers of machines. They meet the whole
-//! contracts of their traits, and fail or stop exactly where they are told to.
+//! Objects in memory for tests: a source, a sink and a host, two volumes and two regions, which meet the whole contracts of
+//! their traits, and fail or stop exactly where they are told to. Beside them the volumes that tests begin with, a caller
+//! of any machine, and plain slow readers of memory and disk.
 #![tactic(auto)]
 
 mod block_lists;

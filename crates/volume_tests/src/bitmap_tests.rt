@@ -39,7 +39,7 @@ fn with_bitmap(alloc: Global, blocks: u32, words: &[u64]) -> Result<ListVolume, 
     Ok(v)
 }
 
-/// A call of the crate on a volume. Each reads its bitmap alone.
+/// A call of `block_alloc` on a volume. Each reads its bitmap alone.
 #[derive(Clone, Copy)]
 enum Call {
     Count,

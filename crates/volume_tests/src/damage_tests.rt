@@ -1,4 +1,4 @@
-//! Drawn damages of a volume, looked at in both ways.
+//! Drawn damages of a volume, each looked at by `volume_check` and by the plain check.
 
 use crate::damages::{Draws, damaged, place};
 use crate::same::same;

@@ -1,4 +1,4 @@
-//! Words of a volume that cannot be read.
+//! Looks at a volume of which a word cannot be read.
 
 use crate::failing_blocks::{Failing, FailingBlocks};
 use crate::same::same;

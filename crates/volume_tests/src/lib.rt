@@ -1,5 +1,7 @@
-//! Tests of what a volume is made of: its bitmap, its inodes, and its rules, beside a plain slow check of them. Beside that laws that try the
-//! definitions of a volume and of memory over it on small ones. They stand above these crates, so that each of them is proved once.
+//! Tests of what a volume is made of: its bitmap, its inodes, and its rules, beside a plain slow check of these. They stand
+//! above the crates that they test, so that each of those is proved once.
+//!
+//! `proofs/` has laws that try the definitions of a volume, and of memory over one, on small volumes.
 #![tactic(auto)]
 
 #[cfg(test)]

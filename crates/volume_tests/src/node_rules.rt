@@ -1,4 +1,4 @@
-//! The rules 8 to 10, in the same way.
+//! The rules 8 to 10, each looked at by itself as it is written down, in as many steps as that takes.
 
 use crate::plain_check::Broken;
 use crate::words::{inode_block, kind, node_word, size};

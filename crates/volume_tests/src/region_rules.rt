@@ -1,4 +1,4 @@
-//! Rule 11, in the same way.
+//! Rule 11, looked at as it is written down, in as many steps as that takes.
 
 use crate::plain_check::Broken;
 use crate::words::{inode_block, kind, node_word, size};

@@ -1,4 +1,4 @@
-//! Tables of volumes: words are changed, and then the volume is looked at.
+//! Tables of volumes: words are changed, and then the volume is looked at by `volume_check` and by the plain check.
 
 use crate::plain_check::first_broken;
 use crate::same::same;
