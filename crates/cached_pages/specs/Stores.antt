@@ -13,7 +13,8 @@ pub record SameCached (old new : List ℕ) : Type 0 where
   pub found : (b : ℕ) → entry_of_block new b ≡ entry_of_block old b
   pub names : (b k : ℕ) → entry_of_block old b ≡ Some k → name_in new (Some k) ≡ name_in old (Some k)
 
--- the same, but that entry k may have its name with the larger size of the two
+-- each block has the entry that it had, if any, and that the name that it had; but entry k may have its name with the larger
+-- size of the two
 pub record Widens (k : ℕ) (name : Option PageName) (old new : List ℕ) : Type 0 where
   pub found : (b : ℕ) → entry_of_block new b ≡ entry_of_block old b
   pub others : (b j : ℕ) → entry_of_block old b ≡ Some j → j ≢ k → name_in new (Some j) ≡ name_in old (Some j)

@@ -16,7 +16,8 @@ pub record PutsSpan (f g : BlockWords) (blocks : List ℕ) (first off : ℕ) (by
   pub others : (b w : ℕ) → (Contains blocks b → ⊥) → g b w ≡ f b w
   pub each : (x : ℕ) → 4096 * first ≤ x → x < 4096 * (first + length blocks) → span_byte g blocks first x ≡ over (span_byte f blocks first) off bytes k x
 
--- the same of the bytes below a size alone: behind them these pages may hold anything
+-- the first k of these bytes are stored from byte `off` of the file on, all of them below a size. No other byte of these
+-- pages below the size differs, and no other block; behind it they may hold anything
 pub record PutsLead (f g : BlockWords) (blocks : List ℕ) (first size off : ℕ) (bytes : List ℕ) (k : ℕ) : Type 0 where
   pub most : k ≤ min (length bytes) (size - off)
   pub others : (b w : ℕ) → (Contains blocks b → ⊥) → g b w ≡ f b w

@@ -30,7 +30,7 @@ Comes walked (Err (Fault k)) = k ≡ 0
 Comes walked (Err Stopped) = Unit {0}
 Comes walked (Err Memory) = ⊥
 
--- the same of the row of a path's last name
+-- a look-up of the row of a path's last name answers what the state has of it; where it failed, no byte is done
 abbrev pub RowComes : State → List (List ℕ) → Result Row FileFail → Type 0
 RowComes s names (Ok row) = (walk_to_dir s (front_of names) ≡ Ok row.dir.0) × (get s.names (row.dir.0, last_of names) ≡ Some row.ino.0)
 RowComes s names (Err (Refused c)) = (walk_to_dir s (front_of names) ≡ Err c) ⊎ ((dir : ℕ) × (walk_to_dir s (front_of names) ≡ Ok dir) × (found s dir (last_of names) ≡ Err c))

@@ -23,7 +23,7 @@ pub record IsImage (words : List ℕ) : Type 0 where
   pub header : HasHeader words
   pub geometry : HasGeometry (slice_index words 2) (slice_index words 3) (8 * length words)
 
--- the same four rules, of bytes
+-- bytes that keep the four rules of the header
 pub record KeepsRules (bytes : List ℕ) : Type 0 where
   pub long : IsImageLength (length bytes)
   pub magic : word_at bytes 0 ≡ image_magic

@@ -44,7 +44,7 @@ abbrev pub FindsFree : VolumeShape → BlockWords → Option Ino → Type 0
 FindsFree shape words None = AreUsed words 1 shape.inodes
 FindsFree shape words (Some i) = IsIno shape i.0 × (inode_kind words i.0 ≡ 0) × AreUsed words 1 (i.0 - 1)
 
--- the same of the 32 inodes of a block, from inode `first` on
+-- the least free inode of the 32 of a block, from inode `first` on, by its place there; or that the first `count` are used
 abbrev pub FindsBelow : BlockWords → ℕ → ℕ → Option ℕ → Type 0
 FindsBelow words first count None = AreUsed words first count
 FindsBelow words first count (Some k) = (k < count) × (inode_kind words (first + k) ≡ 0) × AreUsed words first k

@@ -116,7 +116,7 @@ pub record IsDone (o : Outset) (does : Scene → Scene → Type 0) (x : Outcome)
   pub goes : Goes o does x state begin after
   pub counted : after.health.faults ≤ x.faults
 
--- the same where the image could not be saved
+-- it went so from some state, which the machine stood for, and the image could not be saved
 pub record IsDoneUnsaved (o : Outset) (does : Scene → Scene → Type 0) (x : Outcome) : Type 0 where
   pub state : State
   pub begin : Scene
@@ -138,7 +138,7 @@ pub record Works (o : Outset) (does : Scene → Scene → Type 0) (x : Outcome) 
   pub restored : IsRoomy i k → after.below.home ≡ begin.below.home → after.state.shape ≡ s.shape → IsRestored i k disk_now s
   pub counted : after.health.faults ≤ x.faults
 
--- the same where the image could not be saved, so that nothing is said of its file
+-- of a pair that stands for s, where the image could not be saved: the work led to a state, and nothing is said of the image's file
 pub record WorksUnsaved (o : Outset) (does : Scene → Scene → Type 0) (x : Outcome) (s : State) : Type 0 where
   pub begin : Scene
   pub after : Scene

@@ -20,7 +20,7 @@ abbrev pub IsRegionAt : State → ℕ → Result OnRegion ℕ → Type 0
 IsRegionAt s i (Ok at) = (at.ino.0 ≡ i) × ((go : Request) → on_region s (get s.nodes i) (λ r. go i r (txn_at s.txns i)) ≡ go i at.region.now (option_copied at.txn))
 IsRegionAt s i (Err number) = (go : Request) → on_region s (get s.nodes i) (λ r. go i r (txn_at s.txns i)) ≡ refused s number
 
--- the same at a path
+-- the region at a path, and its transaction; or the refusal
 abbrev pub FindsRegion : State → List ℕ → Result OnRegion ℕ → Type 0
 FindsRegion s path (Ok at) = (go : Request) → at_region s path go ≡ go at.ino.0 at.region.now (option_copied at.txn)
 FindsRegion s path (Err number) = (go : Request) → at_region s path go ≡ refused s number

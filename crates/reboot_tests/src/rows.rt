@@ -86,7 +86,7 @@ static ROWS: [Row; 125] = [
     Row::DiskWord(1, 0, 0b1_1111),
     Row::Boots(0, 0, 1, 0),
     Row::Is(5, 0, 1),
-    // the same, where the page of inodes is cached too: what is cached counts
+    // the file was cut short so, and the page of inodes is cached too: what is cached counts
     Row::New,
     Row::Data(1, 5, DIRTY | DATA, 9),
     Row::Name(1, 2, 1, 904),

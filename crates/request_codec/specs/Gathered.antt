@@ -16,7 +16,7 @@ IsKept line (Line bytes) = (bytes ≡ line) × (length line ≤ 4194304)
 IsKept line TooLong = 4194304 < length line
 IsKept line End = ⊥
 
--- the same where the input ended: a line of no bytes is none
+-- where the input ended the last line is given so too, but a line of no bytes is none
 abbrev pub IsKeptLast : List ℕ → NextLine → Type 0
 IsKeptLast line (Line bytes) = IsKept line (Line bytes) × (line ≢ [])
 IsKeptLast line TooLong = IsKept line TooLong × (line ≢ [])

@@ -132,7 +132,7 @@ pub record Ends {T : Type 0} (s t : Health) (answer : Result T VolFail) : Type 0
   pub stays : s.stopped ≡ true → t.stopped ≡ true
   pub cause : FailCause s t answer
 
--- the same of a call whose one failure is the stop
+-- of a call whose one failure is the stop: that comes only where the machine is stopped afterwards
 abbrev pub HaltCause : {T E : Type 0} → Health → Health → Result T E → Type 0
 HaltCause s t (Ok _) = t.stopped ≡ s.stopped
 HaltCause s t (Err _) = t.stopped ≡ true
@@ -153,8 +153,8 @@ abbrev pub FaultAt : {T : Type 0} → Result T RunFail → (ℕ → Type 0) → 
 FaultAt (Err (RunFault n)) p = p n
 FaultAt _ p = Unit {0}
 
--- the same by what the answer says: `fault` is that it tells a fault, `stop` that it tells a stop. So it serves each
--- error type
+-- how a call ends, by what its answer says: `fault` is that it tells a fault, `stop` that it tells a stop. So it serves
+-- each error type
 pub record EndsBy (s t : Health) (fault stop : Type 0) : Type 0 where
   pub later : s.faults ≤ t.faults
   pub stays : s.stopped ≡ true → t.stopped ≡ true

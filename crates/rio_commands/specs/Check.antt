@@ -46,7 +46,7 @@ Finds (Absent Disk) image disk rose files = (words : List ℕ) × HoldsImage fil
 Finds (HostFault Image) image disk rose files = rose
 Finds (HostFault Disk) image disk rose files = rose × (words : List ℕ) × HoldsImage files image words
 
--- the same, as a record
+-- `Finds`, as a record
 pub record Found (end : CheckEnd) (image disk : List ℕ) (rose : Type 0) (files : Option Files) : Type 0 where
   pub finds : Finds end image disk rose files
 
@@ -99,7 +99,7 @@ Examines (HostFault Disk) c scratch new = Rose c.faults.count new.faults.count
 Examines Memory c scratch new = Unit {0}
 Examines (Absent file) c scratch new = ⊥
 
--- the same, as a record
+-- `Examines`, as a record
 pub record Examined (end : CheckEnd) (c : Contents) (scratch : ℕ) (new : Contents) : Type 0 where
   pub examines : Examines end c scratch new
 

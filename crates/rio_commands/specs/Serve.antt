@@ -159,7 +159,7 @@ pub record ServeCauses (end : PairEnd LinesEnd) (image disk : List ℕ) (stop : 
 abbrev pub Decided : Type 0 → ℕ → Outside → Outside → Type 0
 Decided told status old new = told ⊎ (status ≡ 6) ⊎ ((status ≡ 7) × HostRose old new)
 
--- the same of the image, where no call on the disk's file comes before
+-- this comes of the image, but for want of memory and where the host refuses a call on it: no call on the disk's file comes before
 abbrev pub DecidedByImage : Type 0 → PairEnd LinesEnd → ℕ → Outside → Outside → Type 0
 DecidedByImage told end status old new = told ⊎ (status ≡ 6) ⊎ ((end ≡ HostFault Image) × HostRose old new)
 

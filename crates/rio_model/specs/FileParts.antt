@@ -31,7 +31,7 @@ WritePart old off bytes new = (new ≡ old) ⊎ (new ≡ written old off bytes) 
 abbrev pub ResizePart : List ℕ → ℕ → List ℕ → Type 0
 ResizePart old len new = (new ≡ old) ⊎ (new ≡ resized old len)
 
--- the same of a state, where inode i is the file
+-- state t is s, but that in file i the first k bytes of a write are there, all of them over bytes that it had
 pub record LeadsTo (s : State) (i off : ℕ) (bytes : List ℕ) (k : ℕ) (t : State) : Type 0 where
   pub old : List ℕ
   pub new : List ℕ

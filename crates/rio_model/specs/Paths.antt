@@ -52,7 +52,7 @@ abbrev pub walk : State → ℕ → List (List ℕ) → Result ℕ ℕ
 walk s i [] = Ok i
 walk s i (name ∷ names) = if is_dir (get s.nodes i) then from_found (get s.names (i, name)) (λ j. walk s j names) else Err 4
 
--- the same for a directory: refusal 4 also where the end is no directory
+-- the end of a walk that must be a directory: refusal 4 where it is none
 abbrev pub as_dir : State → Result ℕ ℕ → Result ℕ ℕ
 as_dir s (Ok i) = if is_dir (get s.nodes i) then Ok i else Err 4
 as_dir s (Err c) = Err c

@@ -183,7 +183,7 @@ moved s dir name to_dir to_name i = record s { names = insert (remove s.names (d
 abbrev pub move_row : State → ℕ → List ℕ → ℕ → List ℕ → ℕ → Answered
 move_row s dir name to_dir to_name i = with_room s (if dir == to_dir then 0 else row_wanted s to_dir) (answered (moved s dir name to_dir to_name i) Done)
 
--- the same over a row whose node j goes
+-- a row names this inode in place of another row, and node j goes
 abbrev pub replaced : State → ℕ → List ℕ → ℕ → List ℕ → ℕ → ℕ → State
 replaced s dir name to_dir to_name i j = record (moved s dir name to_dir to_name i) { nodes = remove s.nodes j }
 
