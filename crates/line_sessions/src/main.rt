@@ -19,9 +19,9 @@
 #![tactic(auto)]
 
 mod command_words;
+mod input_lines;
 mod meanings;
 mod replies;
-mod rows;
 mod session;
 mod sinks;
 mod states;

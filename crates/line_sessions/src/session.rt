@@ -1,9 +1,9 @@
 //! A session: request lines that are answered one after the other, each in the state that the one before it left.
 
 use crate::command_words::command_of;
+use crate::input_lines::put_lines_of;
 use crate::meanings::{let_go, put_each_of, put_parsed};
 use crate::replies::{put_reply, put_texts, reply_of};
-use crate::rows::put_lines_of;
 use crate::sinks::put_writing;
 use crate::states::{doomed, root_alone};
 use crate::words::{WORDS, Word, looked_up, small};

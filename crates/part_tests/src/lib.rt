@@ -14,9 +14,9 @@ mod disk_open_tests;
 #[cfg(test)]
 mod disk_rig;
 #[cfg(test)]
-mod drawn_part_tests;
-#[cfg(test)]
 mod dump_rig;
+#[cfg(test)]
+mod frame_pool_drawn_tests;
 #[cfg(test)]
 mod frame_pool_tests;
 #[cfg(test)]

@@ -1,6 +1,6 @@
 use Rattle.std.proofs.Common.{ap, not, ◌∙◌}
 use Rattle.rio_commands.proofs.ServeEndings.{serve_runs_as}
-use Rattle.rio_commands.proofs.pair_run.serve_pair.Goals as goal
+use Rattle.rio_commands.proofs.serve_command.serve_pair.Goals as goal
 
 pub work_on_pair-end-requires-clause-asks : goal.work_on_pair-end-requires-clause-asks
 work_on_pair-end-requires-clause-asks g c = λ causes set armed gathers. (set ∙ c.is_none.ensures ∙ ap not gathers, armed)

@@ -1,6 +1,6 @@
 use Rattle.std.specs.Prelude.{◌≡◌, ℕ, ◌<◌, ◌≤◌, false, slice_index_or}
 use Rattle.frame_pool.specs.Pools.{NoneFree, blocks_in, frames_in, is_pinned, pins_in}
-use Rattle.part_tests.proofs.drawn_part_tests.drawn_calls_are_as_expected.Given as goal
+use Rattle.part_tests.proofs.frame_pool_drawn_tests.drawn_calls_are_as_expected.Given as goal
 
 abbrev pub invariant-loop-drawn : goal.invariant-loop-drawn
 invariant-loop-drawn g l =

@@ -1,5 +1,5 @@
 use Rattle.std.proofs.Common.{◌≡◌, ◌≤◌, ◌^◌, true, []}
-use Rattle.line_sessions.proofs.rows.put_read.Given as goal
+use Rattle.line_sessions.proofs.input_lines.put_read.Given as goal
 
 -- the reader is within its limit, and has ended only where nothing is left
 abbrev pub invariant-loop : goal.invariant-loop
