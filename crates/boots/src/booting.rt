@@ -9,8 +9,9 @@ ghost use Rattle.boots.specs.Legal.{BootLeads, IsBootPlan};
 ghost use Rattle.machine_bench.specs.Benches.{made_contents, made_run};
 ghost use Rattle.boots.specs.Parts.{IsDiskAfter, PartsStand, armed_run};
 
+use crate::parts::{Parts, board_of};
 use crate::serving::serve_machine;
-use crate::{BootEnd, BootPlan, BootRun, Parts, board_of};
+use crate::{BootEnd, BootPlan, BootRun};
 use block_disk::{DiskChoice, MemDisk};
 use board::Board;
 use rio_base::{DiskBlocks, Machine, MemWords, WordAt};

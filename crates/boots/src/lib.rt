@@ -17,12 +17,8 @@ mod serving;
 mod summary;
 mod transcript;
 
-pub use copies::copy_request;
-pub use counting::{VolumeCounts, count_parts};
 pub use drawn_plan::drill_plan;
-pub use formatting::format_parts;
 pub use many_boots::live;
-pub use parts::{Parts, board_of};
 pub use plan::{BootPlan, BootPlans, CallList, LivePlan, RequestList};
 pub use summary::{tell_memory, tell_summary};
 pub use transcript::{AnsweredList, BootEnd, BootRun, BootRuns, Transcript};

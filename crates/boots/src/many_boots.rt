@@ -10,7 +10,10 @@ ghost use Rattle.boots.specs.Legal.{BootsLead, IsBootPlan, Legal, plan_shape};
 ghost use Rattle.boots.specs.Parts.{PartsStand};
 
 use crate::booting::run_boot;
-use crate::{BootPlan, BootRun, LivePlan, Parts, Transcript, count_parts, format_parts};
+use crate::counting::count_parts;
+use crate::formatting::format_parts;
+use crate::parts::Parts;
+use crate::{BootPlan, BootRun, LivePlan, Transcript};
 use rio_base::VolumeShape;
 use std::alloc::{AllocError, Global};
 

@@ -10,7 +10,8 @@ ghost use Rattle.warm_reboot.specs.Examining.{TellsNoRule};
 ghost use Rattle.pair_files.specs.Scenes.{IsBooted};
 ghost use Rattle.boots.specs.Boots.{CoreHolds, CoreStands, EndsUnbooted, RunsBoot, ServesThese, none_served, run_served};
 
-use crate::{BootEnd, BootRun, copy_request};
+use crate::copies::copy_request;
+use crate::{BootEnd, BootRun};
 use page_cache::PageCache;
 use rio_base::{Machine, VolumeShape};
 use rio_core::{Core, answer_one};

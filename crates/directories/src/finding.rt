@@ -13,10 +13,11 @@ ghost use Rattle.directories.specs.Reading.{CanReadDir, FindsIn, FindsInPage};
 ghost use Rattle.directories.specs.Entries.{IsKey, name_in};
 ghost use Rattle.directories.specs.Rows.{Finds, IsEntry};
 
-use crate::{
-    ENTRY_BYTES, ENTRY_WORDS, NAME_BYTES, NameKey, PAGE_ENTRIES, dir_inode, entries_in_page,
-    entry_ino, has_name, may_have_name, page_block, passes_four, read_entry,
+use crate::entries::{
+    ENTRY_BYTES, ENTRY_WORDS, NAME_BYTES, NameKey, PAGE_ENTRIES, entry_ino, has_name,
+    may_have_name, passes_four,
 };
+use crate::pages::{dir_inode, entries_in_page, page_block, read_entry};
 use inode_table::Inode;
 use rio_base::{Block, Blocks, Ino, VolFail, VolumeShape};
 

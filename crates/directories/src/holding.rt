@@ -12,8 +12,9 @@ ghost use Rattle.inode_table.specs.Inodes.{IsInode};
 ghost use Rattle.directories.specs.Entries.{name_in};
 ghost use Rattle.directories.specs.Rows.{HoldsRows, NamesApart};
 
+use crate::entries::{ENTRY_BYTES, ENTRY_WORDS, NAME_BYTES, entry_ino, name_length};
 use crate::listing::write_bytes;
-use crate::{ENTRY_BYTES, ENTRY_WORDS, NAME_BYTES, entry_ino, name_length, read_entry};
+use crate::pages::read_entry;
 use inode_table::Inode;
 use name_index::{DirNames, NotKept};
 use rio_base::{Blocks, Ino, ReadFail, VolumeShape};

@@ -15,13 +15,9 @@ mod storing;
 
 pub use applying::apply;
 pub use changes::DirChange;
-pub use entries::{
-    ENTRY_BYTES, ENTRY_WORDS, NAME_BYTES, NameKey, PAGE_ENTRIES, entry_ino, entry_words, has_name,
-    may_have_name, name_length, passes_four, with_ino,
-};
+pub use entries::entry_ino;
 pub use finding::{find, find_at_inode, row_at};
 pub use holding::hold_names;
 pub use listing::names;
-pub use pages::{dir_inode, entries_in_page, first_word, page_block, read_entry};
 pub use planning::{plan_add, plan_set};
 pub use removing::{plan_remove, plan_replace};

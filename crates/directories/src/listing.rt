@@ -15,7 +15,8 @@ ghost use Rattle.directories.specs.Entries.{name_in};
 ghost use Rattle.directories.specs.Reading.{CanReadDir};
 ghost use Rattle.directories.specs.Rows.{ListsNames};
 
-use crate::{ENTRY_BYTES, ENTRY_WORDS, dir_inode, entries_in_page, name_length, page_block};
+use crate::entries::{ENTRY_BYTES, ENTRY_WORDS, name_length};
+use crate::pages::{dir_inode, entries_in_page, page_block};
 use byteorder::{ByteOrder, LittleEndian};
 use inode_table::Inode;
 use name_list::{LINE_BYTES, NameList};

@@ -23,8 +23,10 @@ ghost use Rattle.directories.specs.RowChanges.{AddsRow, SetsRow};
 ghost use Rattle.directories.specs.Rows.{HasRow, InNoOther};
 ghost use Rattle.directories.specs.declared.storing.EntryWords.{EntryWords as EntryWordsOf};
 
+use crate::DirChange;
+use crate::entries::{ENTRY_BYTES, entry_words};
+use crate::pages::{dir_inode, first_word, page_block};
 use crate::storing::{EntryWords, SlotWords, with_entries, words_for_slot};
-use crate::{DirChange, ENTRY_BYTES, dir_inode, entry_words, first_word, page_block};
 use inode_table::Inode;
 use node_pages::{SizeChange, SizeFail, plan_size};
 use rio_base::{Block, BlockList, Blocks, Ino, PAGE_BYTES, ReadFail, VolFail, Volume, VolumeShape};

@@ -13,9 +13,11 @@ ghost use Rattle.directories.specs.Plans.{PlansDir};
 ghost use Rattle.directories.specs.Reading.{CanReadDir};
 ghost use Rattle.directories.specs.RowChanges.{RemovesRow, ReplacesRow};
 
+use crate::DirChange;
+use crate::entries::{ENTRY_BYTES, with_ino};
+use crate::pages::{dir_inode, read_entry};
 use crate::planning::{plan_entries, plan_entry};
 use crate::storing::{SlotWords, moved_words, words_for_slot};
-use crate::{DirChange, ENTRY_BYTES, dir_inode, read_entry, with_ino};
 use inode_table::Inode;
 use rio_base::{Ino, ReadFail, Volume, VolumeShape};
 use std::alloc::Global;

@@ -12,7 +12,9 @@ ghost use Rattle.directories.specs.Contents.{GoesInto, all_edits, entry_edits};
 ghost use Rattle.directories.specs.Reading.{CanReadDir};
 ghost use Rattle.directories.specs.declared.storing.EntryWords.{EntryWords as EntryWordsOf};
 
-use crate::{DirChange, ENTRY_WORDS, PAGE_ENTRIES, first_word, page_block, read_entry};
+use crate::DirChange;
+use crate::entries::{ENTRY_WORDS, PAGE_ENTRIES};
+use crate::pages::{first_word, page_block, read_entry};
 use inode_table::Inode;
 use node_pages::{Edit, EditList, SizeChange};
 use rio_base::{Block, Blocks, Ino, VolFail, VolumeShape};

@@ -9,4 +9,3 @@ mod volume;
 
 pub use cache::PageCache;
 pub use cached_pages::CacheTables;
-pub use storing::store_word;

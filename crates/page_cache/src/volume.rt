@@ -11,7 +11,7 @@ ghost use Rattle.rio_base.specs.Volume.{Begun, CachesStored, Firm, FirmBut, Goes
 ghost use Rattle.std.specs.Prelude.{IfOk, IsErr, IsErrOf, None, OnOk, Some, false, length, true, ℕ, ◌+◌, ◌<◌, ◌≡◌, ◌≤◌};
 
 use crate::cache::PageCache;
-use crate::store_word;
+use crate::storing::store_word;
 use cached_pages::{
     bring_zeros, clear_list, drop_frame, fetch, listed, make_room, put_edit, put_frame_run, ready,
     shadow_frame, unpin_all,

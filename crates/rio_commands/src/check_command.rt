@@ -14,7 +14,8 @@ ghost use Rattle.pair_files.specs.Loads.{IsDiskLoaded, IsImageLoaded, IsImageRea
 ghost use Rattle.pair_files.specs.Pairs.{HasPair};
 ghost use Rattle.rio_commands.specs.Check.{Checks, Examined, Found, HasDisk, HasWords, IsSureOf, unexamined_end, unloaded_end};
 
-use crate::{CheckEnd, tell_check};
+use crate::CheckEnd;
+use crate::check_lines::tell_check;
 use block_disk::HostDisk;
 use board::Board;
 use pair_files::{LoadFail, LoadedPair, PairFile, PairImage, PairNames, load_pair};

@@ -14,11 +14,8 @@ mod serve_command;
 mod serve_lines;
 
 pub use check_command::check_pair;
-pub use check_lines::tell_check;
 pub use ends::{CheckEnd, RegistryEnd};
 pub use formatting::{FormatSizes, PairPlan, format};
 pub use last_line::say;
 pub use registry_command::show_registry;
-pub use registry_lines::{Row, put_header, put_row, tell_registry};
 pub use serve_command::serve_pair;
-pub use serve_lines::tell_end;

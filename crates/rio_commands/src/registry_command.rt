@@ -7,8 +7,9 @@ ghost use Rattle.rio_model.specs.Registry.{HasLayout};
 ghost use Rattle.pair_files.specs.Images.{HoldsImage};
 ghost use Rattle.rio_commands.specs.Registry.{Lists, Misses, Writes, unlisted_end};
 
+use crate::RegistryEnd;
+use crate::registry_lines::tell_registry;
 use crate::registry_listing::list_registry;
-use crate::{RegistryEnd, tell_registry};
 use block_disk::MemDisk;
 use board::Board;
 use pair_files::{LoadFail, board_of, load_image};

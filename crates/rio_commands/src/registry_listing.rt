@@ -6,7 +6,7 @@ ghost use Rattle.request_codec.specs.Sending.{Puts, Sends};
 ghost use Rattle.rio_model.specs.Registry.{HasLayout, frames_of, is_valid, tag_at};
 ghost use Rattle.rio_commands.specs.Registry.{entry_line, header_line, registry_text, row_of};
 
-use crate::{Row, put_header, put_row};
+use crate::registry_lines::{Row, put_header, put_row};
 use registry::{Tag, read_entry};
 use request_codec::send;
 use rio_base::{Failed, Machine, Sink, WordAt};

@@ -5,7 +5,7 @@ ghost use Rattle.std.specs.String.{string_bytes};
 ghost use Rattle.rio_commands.specs.Outside.{benched, outside};
 ghost use Rattle.rio_commands.specs.Serve.{ServeRuns};
 
-use crate::tell_end;
+use crate::serve_lines::tell_end;
 use block_disk::HostDisk;
 use machine_bench::Bench;
 use pair_files::{PairNames, work_on_pair};
