@@ -1,6 +1,6 @@
 use Rattle.pair_files.proofs.StageRules.{booted_served}
 use Rattle.pair_serving.proofs.Scenes.{booted_holds, unserved}
-use Rattle.pair_serving.proofs.pair_work.ServingWork.work.Goals as goal
+use Rattle.pair_serving.proofs.pair_work.ServingPairWork.work.Goals as goal
 
 pub serve_core-requires-clause-holds : goal.serve_core-requires-clause-holds
 serve_core-requires-clause-holds g c =

@@ -1,6 +1,6 @@
 use Rattle.rio_core.proofs.FormRules.{asked_request}
 use Rattle.rio_core.proofs.ServerRules.{halted, limit_lasts}
-use Rattle.rio_core.proofs.server.CoreServer.answer.Goals as goal
+use Rattle.rio_core.proofs.server.CoreLineServer.answer.Goals as goal
 
 pub answer_one-requires-clause-request : goal.answer_one-requires-clause-request
 answer_one-requires-clause-request g c = asked_request c.args.request.now c.requires.asked
