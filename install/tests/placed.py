@@ -1,5 +1,6 @@
 """What an install makes, and what is left behind an uninstall."""
 import os
+import re
 import shutil
 
 from parts.rows import holds, same
@@ -14,7 +15,10 @@ PLACED = [
     "libexec/rio/rio_held",
     "share/bash-completion/completions/rio",
     "share/doc/rio/README.md",
+    "share/doc/rio/bench/README.md",
     "share/doc/rio/docs/GUIDE.md",
+    "share/doc/rio/docs/compare.svg",
+    "share/doc/rio/man/rio.1",
     "share/man/man1/rio.1",
     "share/rio/clients/rio.py",
     "share/rio/clients/rio.c",
@@ -43,6 +47,16 @@ def all_placed(setting):
     same(tests, [], "tests that are installed")
     for name in ("bin/rio", "libexec/rio/rio", "libexec/rio/rio_held", "share/rio/clients/talk"):
         holds(os.access(setting.path(name), os.X_OK), f"{name} cannot be run")
+
+
+def links_lead_on(setting):
+    """Each file that an installed document links is installed too."""
+    top = setting.path("share/doc/rio")
+    for name in names_below(top):
+        if name.endswith(".md"):
+            folder = os.path.dirname(os.path.join(top, name))
+            linked = re.findall(r"\]\(([^)#]+)[^)]*\)", content(os.path.join(top, name)))
+            same([to for to in linked if not os.path.isfile(os.path.join(folder, to))], [], f"what {name} links and is missing")
 
 
 def uninstalled(setting):
@@ -120,6 +134,7 @@ def rows():
     """The rows by their names."""
     return {
         "all is there": all_placed,
+        "links of the documents lead on": links_lead_on,
         "uninstall leaves what was there": uninstalled,
         "uninstall takes a new prefix away": made_prefix,
         "an install by DESTDIR runs where it is moved to": staged,
