@@ -1,7 +1,7 @@
 # Builds the two programs of a checkout: by the gate's own command over a copy of the crates that they are made of. rt ci
-# proves side by side what does not stand on each other, as far as memory allows, takes what a gate in any checkout of this
-# machine has kept, and keeps what it proves. What that prints goes to build.log, and how far it is to the standard error,
-# where that is a terminal.
+# proves all of these from nothing, and side by side what does not stand on each other, as far as memory allows. It takes
+# nothing from earlier runs and keeps nothing but the programs. What it prints goes to build.log, and how far it is to the
+# standard error, where that is a terminal.
 #
 # Who reads this file has read launch.sh, and has set `here` to the folder of the checkout. It begins nothing by itself.
 # shellcheck shell=sh
@@ -64,11 +64,11 @@ begun_crates() {
     done
 }
 
-# How far the build is, by its log. A crate ends with `rt: NAME proved`, `rt: NAME is kept: ..` or `rt: NAME NOT PROVED`.
+# How far the build is, by its log. A crate ends with `rt: NAME proved` or `rt: NAME NOT PROVED`.
 how_far() {
     awk -v crates="$crates" -v begun="$(begun_crates)" '
         BEGIN { of = split(crates, all, " ") }
-        /^rt: [a-z0-9_]+ (proved$|is kept: )/ { if (!($2 in ended)) count++; ended[$2] }
+        /^rt: [a-z0-9_]+ proved$/ { if (!($2 in ended)) count++; ended[$2] }
         /^rt: [a-z0-9_]+ NOT PROVED/ { ended[$2] }
         END {
             for (i = split(begun, name, " "); i >= 1; i--)
