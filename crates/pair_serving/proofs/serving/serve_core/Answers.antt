@@ -13,4 +13,4 @@ returns-clause-served g c = λ s holds served.
     (end.run s holds) c.trapped-trapped.ensures)
 
 pub returns-clause-lasts : goal.returns-clause-lasts
-returns-clause-lasts g c = lasts_told _ _ _ _ _ _ _ _ c.into_machine-machine.ensures.tells (serve_lasts _ _ _ _ _ _ _ _ _ _ _ _ (c.serve_until_end-end.ensures.run c.requires.holds.0 c.requires.holds.1.0))
+returns-clause-lasts g c = lasts_told _ _ _ _ _ _ _ _ c.into_machine-machine.ensures.tells (serve_lasts _ _ _ _ _ _ _ _ _ _ _ _ (c.serve_until_end-end.ensures.run c.requires.holds.0 c.requires.holds.1))
