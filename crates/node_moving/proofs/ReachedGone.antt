@@ -1,5 +1,5 @@
 -- The state that is read once a row and its node are gone, or once a row has another name in its slot.
-use Rattle.request_ends.proofs.Common.{◌≡◌, ◌≢◌, ℕ, ◌<◌, ◌≤◌, ◌⊎◌, true, List, [], ◌∷◌, map, refl, sym, ap, subst, ◌∙◌, arith, inl, inr, None, nat_lt, get, cases_eq, nat_tests, Block, VolumeShape, BlockWords, Seen, IsIno, Kept, numbers, State, Held, held_of, held_ino, IsName, is_dir, Placed, placed_at, volume_layout, SamePlaced, Applied, ReadsAs, TreeRule, node_blocks, InOrder}
+use Rattle.request_ends.proofs.Common.{◌≡◌, ◌≢◌, ℕ, ◌<◌, ◌≤◌, ◌⊎◌, true, List, [], ◌∷◌, map, refl, sym, ap, subst, ◌∙◌, arith, inl, inr, None, nat_lt, get, cases_eq, nat_tests, Block, VolumeShape, BlockWords, Seen, IsIno, Kept, numbers, State, Held, held_of, held_ino, IsName, Placed, placed_at, volume_layout, SamePlaced, Applied, ReadsAs, TreeRule, node_blocks, InOrder}
 use Rattle.directories.specs.Plans.{PlansDir}
 use Rattle.directories.specs.Rows.{IsEntry}
 use Rattle.directories.specs.declared.changes.DirChange.{DirChange}

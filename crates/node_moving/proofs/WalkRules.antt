@@ -1,5 +1,5 @@
 -- Walks along names: one up to the last name, and one that goes on from where another ends.
-use Rattle.request_ends.proofs.Common.{None, Some, Result, Ok, Err, get, State, front_of, last_of, walk_to_dir, from_found, is_dir, walk, found, is_below, ◌≡◌, ℕ, ◌+◌, ◌-◌, ◌<◌, ◌&&◌, Bool, true, false, cond, List, [], ◌∷◌, ◌++◌, length, Option, refl, sym, ap, subst, ◌∙◌, append_assoc, true_false, TreeRule}
+use Rattle.request_ends.proofs.Common.{None, Some, Result, Ok, Err, get, State, front_of, last_of, walk_to_dir, from_found, is_dir, walk, found, is_below, ◌≡◌, ℕ, ◌-◌, ◌<◌, ◌&&◌, Bool, true, false, cond, List, [], ◌∷◌, ◌++◌, length, Option, refl, sym, ap, subst, ◌∙◌, append_assoc, true_false, TreeRule}
 use Rattle.rio_model.specs.Paths.{as_dir}
 use Rattle.rio_model.proofs.Walks.{one_path, walk_append, walk_on, walk_over}
 use Rattle.std.proofs.lemmas.Slice.Eq.{bytes_eq-Decides}

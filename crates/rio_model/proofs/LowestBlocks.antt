@@ -1,13 +1,12 @@
 -- Blocks that are taken into use are the lowest free ones: what keeps that, and that an update which takes them does it.
-use Rattle.rio_model.proofs.Common.{◌≡◌, ◌≢◌, ℕ, zero, suc, ◌+◌, ◌%◌, ◌/◌, ◌<◌, ◌≤◌, ◌⊎◌, Bool, true, false, cond, List, [], ◌∷◌, length, refl, sym, ap, subst, ◌∙◌, arith, inl, inr, filter, bit_at, range_with_len, cases_eq, nat_tests, VolumeShape, used_bit, BlockWords, reserved}
+use Rattle.rio_model.proofs.Common.{◌≡◌, ◌≢◌, ℕ, zero, suc, ◌+◌, ◌%◌, ◌/◌, ◌<◌, ◌≤◌, ◌⊎◌, Bool, true, false, cond, List, [], ◌∷◌, refl, sym, ap, subst, ◌∙◌, arith, inl, inr, filter, bit_at, range_with_len, cases_eq, nat_tests, VolumeShape, used_bit, BlockWords, reserved}
 use Rattle.std.specs.Prelude.{take}
 use Rattle.std.specs.List.{Contains}
-use Rattle.rio_base.specs.Bitmap.{bitmap_block, free_blocks, is_free}
+use Rattle.rio_base.specs.Bitmap.{bitmap_block, is_free}
 use Rattle.rio_base.specs.Shapes.{IsShape}
 use Rattle.rio_model.specs.NodeChanges.{AreLowest, UsesLowest}
 use Rattle.rio_model.proofs.PlacedRules.{bits_low, has_bit}
 use Rattle.rio_model.specs.Updates.{Applied, Update}
-use Rattle.rio_model.specs.VolumeRules.{bitmap_bits}
 
 -- ---- members of a list
 

@@ -6,7 +6,7 @@ use Rattle.rio_base.specs.Regions.{RegionContent, put_word, put_words}
 use Rattle.std.proofs.Common.{Some, None, length}
 use Rattle.std.proofs.lemmas.List.{ext_get_or}
 use Rattle.std.proofs.lemmas.List.FromFn.{get_or-map-range_with_len, length-map-range_with_len}
-use Rattle.rio_model.specs.Undo.{UndoRecord, taken, undo_word, record_at, records_from, undo_records, IsRecord, Links, Within, covers, own_word, first_some, saved_word, is_covered, word_or, before_by, before, live, places, undo_words, map_pages, map_from, region_words, saving, CoversAll, IsRegion, SameSizes, Undoes, Keeps, Rests, Gains, Sets, Puts, Undone, Dropped, room}
+use Rattle.rio_model.specs.Undo.{UndoRecord, taken, undo_word, record_at, records_from, undo_records, IsRecord, Links, Within, covers, own_word, first_some, saved_word, is_covered, word_or, before_by, before, live, places, undo_words, map_pages, map_from, region_words, saving, CoversAll, IsRegion, SameSizes, Undoes, Keeps, Rests, Gains, Sets, Puts, Undone, Dropped}
 
 -- a record of the words of a span
 pub record Saves (words : ℕ → ℕ) (from n : ℕ) (r : UndoRecord) : Type 0 where
