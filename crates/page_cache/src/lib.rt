@@ -4,7 +4,6 @@
 mod ahead;
 mod cache;
 mod reading;
-mod storing;
 mod volume;
 
 pub use cache::PageCache;

@@ -11,10 +11,9 @@ ghost use Rattle.rio_base.specs.Volume.{Begun, CachesStored, Firm, FirmBut, Goes
 ghost use Rattle.std.specs.Prelude.{IfOk, IsErr, IsErrOf, None, OnOk, Some, false, length, true, ℕ, ◌+◌, ◌<◌, ◌≡◌, ◌≤◌};
 
 use crate::cache::PageCache;
-use crate::storing::store_word;
 use cached_pages::{
-    bring_zeros, clear_list, drop_frame, fetch, listed, make_room, put_edit, put_frame_run, ready,
-    shadow_frame, unpin_all,
+    bring_zeros, clear_list, drop_frame, fetch, listed, make_room, put_edit, put_frame,
+    put_frame_run, ready, shadow_frame, unpin_all,
 };
 use rio_base::{Block, Machine, Page, PageName, RunFail, Stopped, VolFail, Volume};
 use shadow_pages::{begin, commit, undo};
@@ -64,7 +63,9 @@ impl<M: Machine> Volume for PageCache<M> {
     }
 
     /// Stores a word of a block outside an update. `Fault` changes no word and no name; `Stopped` leaves the old or the
-    /// new word.
+    /// new word. The block's page is fetched, marked dirty and given the larger size first, so that a crash between two
+    /// steps loses nothing.
+    #[tactic(auto, using(cached_pages::proofs::Goes::ends_of))]
     fn store(&mut self, b: Block, name: Option<PageName>, w: u16, v: u64) -> Result<(), VolFail>
         requires sound { CacheSound (M.contents self.old.machine) (length (M.run self.old.machine).scratch) self.old.tables }
         requires place { IsPlace (cache_seen (M.contents self.old.machine)) b.0 w }
@@ -89,7 +90,9 @@ impl<M: Machine> Volume for PageCache<M> {
         ensures stay { (cache_seen (M.contents self.old.machine)).cached b.0 ≡ true → AllStay (M.contents self.old.machine).words (M.contents self.new.machine).words }
         ensures marks { DirtiesOnly (Some b.0) (M.contents self.old.machine).words (M.contents self.new.machine).words }
     {
-        store_word(&mut self.machine, &mut self.tables, b, name, w, v)
+        let k = ready(&mut self.machine, &mut self.tables, b, name)?;
+        put_frame(&mut self.machine, &mut self.tables, k, b, w, v)?;
+        Ok(())
     }
 
     /// Stores a run of words of a block, from word `w` on in rising order, outside an update: one window for all of them,
