@@ -4,8 +4,8 @@ ghost use Rattle.std.specs.Prelude.{◌≡◌, ◌≢◌, ◌<◌, ℕ, true, No
 ghost use Rattle.rio_base.specs.Machine.{Lasts, StepEnds};
 ghost use Rattle.rio_model.specs.Cover.{Coherent, Keeps, SameNames, is_loose};
 ghost use Rattle.rio_model.specs.Registry.{frames_of, gate_of};
-ghost use Rattle.shadow_pages.specs.Steps.{Clears, IsCleared, StoresWords};
-ghost use Rattle.shadow_pages.specs.Updates.{AreBare, AreEntries, ListsShadows, LosesShadows, Opened, SameShadows};
+ghost use Rattle.shadow_pages.specs.Steps.{Clears, IsCleared};
+ghost use Rattle.shadow_pages.specs.Updates.{AreEntries, ListsShadows, LosesShadows, Opened};
 
 use crate::gate::store_gate;
 use registry::{Tag, read_entry, set_shadow};
@@ -50,25 +50,6 @@ fn clear_shadows<M: Machine>(m: &mut M, shadowed: &[u32]) -> Result<(), Stopped>
     Ok(())
 }
 
-/// Stores 1 in the gate, where no entry has a shadow.
-#[tactic(auto, using(crate::proofs::Gates::gate_firm, rio_model::proofs::Gates::gate_names, rio_model::proofs::Gates::gate_shadow))]
-fn open_gate<M: Machine>(m: &mut M) -> Result<(), Stopped>
-    requires coherent { Coherent (M.contents m.old) (length (M.run m.old).scratch) }
-    requires closed { (M.contents m.old).open_page ≡ None }
-    requires bare { AreBare (M.contents m.old).words }
-    ensures opened { OnOk result (Opened (M.contents m.old) (M.contents m.new)) }
-    ensures same { OnErr result (M.contents m.new ≡ M.contents m.old) }
-    ensures shadows { SameShadows (M.contents m.old).words (M.contents m.new).words }
-    ensures names { SameNames (M.contents m.old).words (M.contents m.new).words }
-    ensures stores { StoresWords (M.contents m.old) (M.contents m.new) }
-    ensures coherent { (n : ℕ) → Coherent (M.contents m.old) n → Coherent (M.contents m.new) n }
-    ensures firm { (b : ℕ) → is_loose (M.contents m.new) b ≡ true → is_loose (M.contents m.old) b ≡ true }
-    ensures ends { StepEnds (M.run m.old) (M.run m.new) (IsErr result) }
-{
-    store_gate(m, 1)?;
-    Ok(())
-}
-
 /// Opens an update that has no shadow yet. `shadowed` lists the entries that may have a shadow from an earlier update;
 /// those of them that are not valid, or have no shadow, are passed over. `Stopped` changes nothing that reads or stands,
 /// and no update is open then.
@@ -92,6 +73,6 @@ pub fn begin<M: Machine>(m: &mut M, shadowed: &[u32]) -> Result<(), Stopped>
 {
     // With the gate at 1 a shadow of an earlier update would count: those go first.
     clear_shadows(m, shadowed)?;
-    open_gate(m)?;
+    store_gate(m, 1)?;
     Ok(())
 }
