@@ -31,25 +31,6 @@ fn fill_shadow<M: Machine>(m: &mut M, k: u32, s: u32) -> Result<(), Stopped>
     copy_closed_page(m, from, to)
 }
 
-/// Gives entry `k` the shadow `s`, which is a copy of its frame.
-#[tactic(auto, using(crate::proofs::Steps::layout_now, crate::proofs::Shadows::other_shadow))]
-fn give_shadow<M: Machine>(m: &mut M, k: u32, s: u32) -> Result<(), Stopped>
-    requires coherent { Coherent (M.contents m.old) (length (M.run m.old).scratch) }
-    requires closed { (M.contents m.old).open_page ≡ None }
-    requires can { CanShadow k s (M.contents m.old).words }
-    requires copied { IsCopied k s (M.contents m.old).words }
-    ensures keeps { Keeps (M.contents m.old) (M.contents m.new) }
-    ensures given { OnOk result (shadow_at (M.contents m.new).words k ≡ s) }
-    ensures cut { OnErr result (shadow_at (M.contents m.new).words k ≡ shadow_at (M.contents m.old).words k) }
-    ensures others { (j : ℕ) → j ≢ k → j < frames_of (M.contents m.old).words → shadow_at (M.contents m.new).words j ≡ shadow_at (M.contents m.old).words j }
-    ensures names { SameNames (M.contents m.old).words (M.contents m.new).words }
-    ensures stores { StoresWords (M.contents m.old) (M.contents m.new) }
-    ensures ends { StepEnds (M.run m.old) (M.run m.new) (IsErr result) }
-{
-    set_shadow(m, k, s)?;
-    Ok(())
-}
-
 /// Gives entry `k`, which is of metadata and has no shadow, the shadow `s`, from 1 to 16, which no valid entry has. What
 /// counts for the entry while an update is open is then a copy of its frame: the frame can be edited. `Stopped` leaves
 /// the entry without a shadow.
@@ -75,6 +56,6 @@ pub fn shadow<M: Machine>(m: &mut M, k: u32, s: u32) -> Result<(), Stopped>
 {
     // The shadow counts as soon as the entry has it, so it has to be a copy before.
     fill_shadow(m, k, s)?;
-    give_shadow(m, k, s)?;
+    set_shadow(m, k, s)?;
     Ok(())
 }
