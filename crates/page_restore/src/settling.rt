@@ -2,7 +2,7 @@
 
 ghost use Rattle.std.specs.Prelude.{◌≡◌, ◌<◌, ◌+◌, ◌*◌, ◌↔◌, ℕ, true, None, IfOk, IsErrOf, IsTrue, OnOk, length};
 ghost use Rattle.rio_base.specs.Machine.{FaultCause, Lasts, StepEnds};
-ghost use Rattle.rio_model.specs.Registry.{IsValid, OneEntry, frames_of, is_dirty, tag_at};
+ghost use Rattle.rio_model.specs.Registry.{IsValid, OneEntry, frames_of};
 ghost use Rattle.rio_model.specs.Standing.{Brings, Endures, IsHome, IsSettled, Restorable, none_apart};
 ghost use Rattle.page_restore.specs.Phases.{IsMarkedDirty, PhaseEnds};
 
@@ -56,24 +56,6 @@ fn settle_entry<M: Machine>(m: &mut M, k: u32, block: &mut Vec<u64>) -> Result<(
     if home {
         return Ok(());
     }
-    mark_dirty(m, k)?;
-    Ok(())
-}
-
-/// Marks entry `k` dirty, whose page that counts is not the disk's block.
-#[tactic(auto, using(crate::proofs::Steps::layout_now, rio_model::proofs::RebootSteps::endures_refl, crate::proofs::SettleTurns::marked_words))]
-fn mark_dirty<M: Machine>(m: &mut M, k: u32) -> Result<(), VolFail>
-    requires image { Restorable (M.contents m.old) (length (M.run m.old).scratch) }
-    requires closed { (M.contents m.old).open_page ≡ None }
-    requires valid { IsValid (M.contents m.old).words k }
-    requires differs { ¬ IsHome (M.contents m.old) k }
-    ensures endures { Endures none_apart (M.contents m.old) (M.contents m.new) }
-    ensures dirty { OnOk result (is_dirty (tag_at (M.contents m.new).words k) ≡ true) }
-    ensures marked { IsMarkedDirty (M.contents m.old) (M.contents m.new) k }
-    ensures one_entry { OneEntry k (M.contents m.old).words (M.contents m.new).words }
-    ensures disk { (M.contents m.new).disk ≡ (M.contents m.old).disk }
-    ensures ends { PhaseEnds (M.contents m.old) (M.contents m.new) (M.run m.old) (M.run m.new) (IsErrOf result VolFail.Fault) (IsErrOf result VolFail.Stopped) }
-{
     set_dirty(m, k)?;
     Ok(())
 }

@@ -6,9 +6,10 @@ use Rattle.rio_base.specs.Rules.{true_false}
 use Rattle.rio_base.specs.declared.failures.VolFail.TheVariants.{Fault, Stopped}
 use Rattle.rio_model.specs.Registry.{is_dirty, is_valid}
 use Rattle.rio_model.specs.Standing.{none_apart}
-use Rattle.rio_model.proofs.RebootSteps.{endures_read, endures_refl, endures_trans}
-use Rattle.page_restore.proofs.Exits.{home_from, marked_from, marked_read, not_ok, one_from, one_same, phase_well, valid_same}
-use Rattle.page_restore.proofs.SettleTurns.{marked_words, settled_dirty, settled_invalid}
+use Rattle.rio_model.proofs.RebootSteps.{endures_dirtied, endures_read, endures_refl, endures_trans, now_dirty}
+use Rattle.registry.proofs.Retags.{retagged}
+use Rattle.page_restore.proofs.Exits.{endures_same, home_from, marked_from, marked_read, not_ok, one_from, one_same, phase_step, phase_stop, phase_well, valid_same}
+use Rattle.page_restore.proofs.SettleTurns.{marked_now, marked_words, settled_dirty, settled_invalid}
 use Rattle.page_restore.proofs.Steps.{image_next, layout_now, phase_none, phase_then, phase_told}
 use Rattle.page_restore.proofs.settling.settle_entry.Goals as goal
 
@@ -18,14 +19,8 @@ load_tag-tag-requires-clause-layout g c = layout_now _ _ c.requires.image
 pub is_home-requires-clause-valid : goal.is_home-requires-clause-valid
 is_home-requires-clause-valid g c = record { within = c.requires.entry; valid = ap is_valid (sym c.load_tag-tag.ensures) ∙ sym c.is_valid.ensures ∙ c.if-not-is_valid.false }
 
-pub mark_dirty-requires-clause-image : goal.mark_dirty-requires-clause-image
-mark_dirty-requires-clause-image g c = image_next none_apart _ _ _ _ _ _ c.requires.image (endures_read _ _ c.is_home.ensures.same) c.is_home.ensures.ends
-
-pub mark_dirty-requires-clause-valid : goal.mark_dirty-requires-clause-valid
-mark_dirty-requires-clause-valid g c = valid_same c.args.k _ _ (ap (λ (x : Contents). x.words) c.is_home.ensures.same) (record { within = c.requires.entry; valid = ap is_valid (sym c.load_tag-tag.ensures) ∙ sym c.is_valid.ensures ∙ c.if-not-is_valid.false })
-
-pub mark_dirty-requires-clause-differs : goal.mark_dirty-requires-clause-differs
-mark_dirty-requires-clause-differs g c = λ h. true_false (sym (c.in_ok-home.ensures.answer.1 (home_from _ _ c.args.k c.is_home.ensures.same h)) ∙ c.if-home.false)
+pub set_dirty-requires-clause-can : goal.set_dirty-requires-clause-can
+set_dirty-requires-clause-can g c = record { layout = layout_now _ _ (image_next none_apart _ _ _ _ _ _ c.requires.image (endures_read _ _ c.is_home.ensures.same) c.is_home.ensures.ends); closed = c.is_home.ensures.ends.closed; entry = (valid_same c.args.k _ _ (ap (λ (x : Contents). x.words) c.is_home.ensures.same) (record { within = c.requires.entry; valid = ap is_valid (sym c.load_tag-tag.ensures) ∙ sym c.is_valid.ensures ∙ c.if-not-is_valid.false })).within }
 
 -- ---- an entry that is not valid
 
@@ -102,42 +97,47 @@ returns-then-home-clause-ends g c = phase_well _ _ _ _ _ _ c.in_ok-home.ensures.
 
 -- ---- a mark that failed
 
-pub returns-in_err-mark_dirty-clause-endures : goal.returns-in_err-mark_dirty-clause-endures
-returns-in_err-mark_dirty-clause-endures g c = endures_trans none_apart _ _ _ (endures_read _ _ c.is_home.ensures.same) c.mark_dirty.ensures.endures
+pub returns-in_err-set_dirty-clause-endures : goal.returns-in_err-set_dirty-clause-endures
+returns-in_err-set_dirty-clause-endures g c = endures_trans none_apart _ _ _ (endures_read _ _ c.is_home.ensures.same) (endures_same none_apart _ _ c.in_err-set_dirty.ensures.same)
 
-pub returns-in_err-mark_dirty-clause-settled : goal.returns-in_err-mark_dirty-clause-settled
-returns-in_err-mark_dirty-clause-settled g c = not_ok _ c.from_residual-in_err-mark_dirty.result c.from_residual-in_err-mark_dirty.ensures.0
+pub returns-in_err-set_dirty-clause-settled : goal.returns-in_err-set_dirty-clause-settled
+returns-in_err-set_dirty-clause-settled g c = not_ok _ c.from_residual-in_err-set_dirty.result c.from_residual-in_err-set_dirty.ensures.0
 
-pub returns-in_err-mark_dirty-clause-marked : goal.returns-in_err-mark_dirty-clause-marked
-returns-in_err-mark_dirty-clause-marked g c = marked_from _ _ _ c.args.k c.is_home.ensures.same c.mark_dirty.ensures.marked
+pub returns-in_err-set_dirty-clause-marked : goal.returns-in_err-set_dirty-clause-marked
+returns-in_err-set_dirty-clause-marked g c = marked_from _ _ _ c.args.k c.is_home.ensures.same (marked_words _ _ c.args.k (ap (λ (x : Contents). x.words) c.in_err-set_dirty.ensures.same))
 
-pub returns-in_err-mark_dirty-clause-one_entry : goal.returns-in_err-mark_dirty-clause-one_entry
-returns-in_err-mark_dirty-clause-one_entry g c = one_from c.args.k _ _ _ (ap (λ (x : Contents). x.words) c.is_home.ensures.same) c.mark_dirty.ensures.one_entry
+pub returns-in_err-set_dirty-clause-one_entry : goal.returns-in_err-set_dirty-clause-one_entry
+returns-in_err-set_dirty-clause-one_entry g c = one_from c.args.k _ _ _ (ap (λ (x : Contents). x.words) c.is_home.ensures.same) c.set_dirty.ensures.changes.one_entry
 
-pub returns-in_err-mark_dirty-clause-disk : goal.returns-in_err-mark_dirty-clause-disk
-returns-in_err-mark_dirty-clause-disk g c = c.mark_dirty.ensures.disk ∙ ap (λ (x : Contents). x.disk) c.is_home.ensures.same
+pub returns-in_err-set_dirty-clause-disk : goal.returns-in_err-set_dirty-clause-disk
+returns-in_err-set_dirty-clause-disk g c = ap (λ (x : Contents). x.disk) c.set_dirty.ensures.changes.rest ∙ ap (λ (x : Contents). x.disk) c.is_home.ensures.same
 
-pub returns-in_err-mark_dirty-clause-ends : goal.returns-in_err-mark_dirty-clause-ends
-returns-in_err-mark_dirty-clause-ends g c =
-    let p = err_from_is_err_and c.from_residual-in_err-mark_dirty.result c.from_residual-in_err-mark_dirty.ensures.1 in
-    phase_told _ _ _ _ _ _ (p.1 ∙ ap Err p.2) (phase_then _ _ _ _ _ _ _ _ _ _ (never _ Stopped) c.in_ok-home.ensures.ends c.in_err-mark_dirty.ensures.ends)
+pub returns-in_err-set_dirty-clause-ends : goal.returns-in_err-set_dirty-clause-ends
+returns-in_err-set_dirty-clause-ends g c =
+    let p = err_from_is_err_and c.from_residual-in_err-set_dirty.result c.from_residual-in_err-set_dirty.ensures.1 in
+    phase_then _ _ _ _ _ _ _ _ _ _ (never _ Stopped) c.in_ok-home.ensures.ends (phase_stop _ _ _ _ _ _ refl (p.1 ∙ ap Err p.2) c.set_dirty.ensures.changes.closed c.set_dirty.ensures.changes.lasts c.in_err-set_dirty.ensures.changes.ends)
 
 -- ---- a mark that was made
 
 pub returns-clause-endures : goal.returns-clause-endures
-returns-clause-endures g c = endures_trans none_apart _ _ _ (endures_read _ _ c.is_home.ensures.same) c.mark_dirty.ensures.endures
+returns-clause-endures g c =
+    let image = image_next none_apart _ _ _ _ _ _ c.requires.image (endures_read _ _ c.is_home.ensures.same) c.is_home.ensures.ends in
+    let valid = valid_same c.args.k _ _ (ap (λ (x : Contents). x.words) c.is_home.ensures.same) (record { within = c.requires.entry; valid = ap is_valid (sym c.load_tag-tag.ensures) ∙ sym c.is_valid.ensures ∙ c.if-not-is_valid.false }) in
+    endures_trans none_apart _ _ _ (endures_read _ _ c.is_home.ensures.same) (endures_dirtied _ c.args.k _ _ image c.in_ok-set_dirty.ensures.changes.rest valid (retagged c.args.k _ _ _ c.in_ok-set_dirty.ensures.changes.one_entry c.in_ok-set_dirty.ensures.entry))
 
 pub returns-clause-settled : goal.returns-clause-settled
-returns-clause-settled g c = settled_dirty _ c.args.k c.in_ok-mark_dirty.ensures.dirty
+returns-clause-settled g c = settled_dirty _ c.args.k (now_dirty c.args.k _ _ (retagged c.args.k _ _ _ c.in_ok-set_dirty.ensures.changes.one_entry c.in_ok-set_dirty.ensures.entry))
 
 pub returns-clause-marked : goal.returns-clause-marked
-returns-clause-marked g c = marked_from _ _ _ c.args.k c.is_home.ensures.same c.mark_dirty.ensures.marked
+returns-clause-marked g c =
+    let valid = valid_same c.args.k _ _ (ap (λ (x : Contents). x.words) c.is_home.ensures.same) (record { within = c.requires.entry; valid = ap is_valid (sym c.load_tag-tag.ensures) ∙ sym c.is_valid.ensures ∙ c.if-not-is_valid.false }) in
+    marked_from _ _ _ c.args.k c.is_home.ensures.same (marked_now _ _ c.args.k valid (λ h. true_false (sym (c.in_ok-home.ensures.answer.1 (home_from _ _ c.args.k c.is_home.ensures.same h)) ∙ c.if-home.false)) (retagged c.args.k _ _ _ c.in_ok-set_dirty.ensures.changes.one_entry c.in_ok-set_dirty.ensures.entry))
 
 pub returns-clause-one_entry : goal.returns-clause-one_entry
-returns-clause-one_entry g c = one_from c.args.k _ _ _ (ap (λ (x : Contents). x.words) c.is_home.ensures.same) c.mark_dirty.ensures.one_entry
+returns-clause-one_entry g c = one_from c.args.k _ _ _ (ap (λ (x : Contents). x.words) c.is_home.ensures.same) c.set_dirty.ensures.changes.one_entry
 
 pub returns-clause-disk : goal.returns-clause-disk
-returns-clause-disk g c = c.mark_dirty.ensures.disk ∙ ap (λ (x : Contents). x.disk) c.is_home.ensures.same
+returns-clause-disk g c = ap (λ (x : Contents). x.disk) c.set_dirty.ensures.changes.rest ∙ ap (λ (x : Contents). x.disk) c.is_home.ensures.same
 
 pub returns-clause-ends : goal.returns-clause-ends
-returns-clause-ends g c = phase_then _ _ _ _ _ _ _ _ _ _ (never _ Stopped) c.in_ok-home.ensures.ends c.in_ok-mark_dirty.ensures.ends
+returns-clause-ends g c = phase_then _ _ _ _ _ _ _ _ _ _ (never _ Stopped) c.in_ok-home.ensures.ends (phase_step _ _ _ _ _ _ (λ e. true_false (sym e)) c.set_dirty.ensures.changes.closed c.set_dirty.ensures.changes.lasts c.in_ok-set_dirty.ensures.changes.ends)
