@@ -1,7 +1,7 @@
 //! Where the pages of a node lie.
 
-ghost use Rattle.std.specs.Prelude.{◌≡◌, ◌+◌, ◌-◌, ◌/◌, ◌<◌, ◌≤◌, ℕ, None, IfOk, OnOk, length};
-ghost use Rattle.rio_base.specs.Blocks.{Ends, IsRun};
+ghost use Rattle.std.specs.Prelude.{◌≡◌, ◌-◌, ◌/◌, ◌<◌, ℕ, None, IfOk};
+ghost use Rattle.rio_base.specs.Blocks.{Ends};
 ghost use Rattle.rio_base.specs.Layout.{IsIno, half, inode_block, inode_place, inode_word};
 ghost use Rattle.rio_model.specs.Placed.{AtPage, AtTable, HasSlot, placed_at, volume_layout, Owns};
 ghost use Rattle.node_pages.specs.LookingUp.{CanLookUp, LooksUp};
@@ -43,32 +43,6 @@ fn inode_word<V: Blocks>(v: &mut V, shape: &VolumeShape, i: Ino, w: u16) -> Resu
     let block = Block(2 + (i.0 - 1) / 32);
     let place = 16 * ((i.0 - 1) % 32);
     v.word(block, None, place as u16 + w)
-}
-
-/// Reads words of the indirect block of node `i`, from word `w` on, as many as `into` has. After a failure `into` may hold
-/// anything.
-#[tactic(auto, using(crate::proofs::LookingUpRules::can_table))]
-pub fn read_table<V: Blocks>(
-    v: &mut V,
-    shape: &VolumeShape,
-    i: Ino,
-    table: Block,
-    w: u16,
-    into: &mut [u64],
-) -> Result<(), VolFail>
-    requires sound { V.sound v.old }
-    requires can { CanLookUp shape.now (V.seen v.old) }
-    requires owns { Owns (volume_layout shape.now (V.seen v.old).words) i.0 (AtTable 0) }
-    requires table { table.0 ≡ (placed_at (V.seen v.old).words i.0).block (AtTable 0) }
-    requires within { w + length into.old ≤ 512 }
-    ensures words { OnOk result (IsRun (V.seen v.old).words ((placed_at (V.seen v.old).words i.0).block (AtTable 0)) w (length into.old) into.new) }
-    ensures len { length into.new ≡ length into.old }
-    ensures looks { LooksUp shape.now (V.seen v.old) (V.seen v.new) }
-    ensures passes { V.passes v.old v.new }
-    ensures ends { Ends (V.health v.old) (V.health v.new) result }
-    ensures sound { V.sound v.new }
-{
-    v.read_run(table, None, w, into)
 }
 
 /// Word `w` of the indirect block of node `i`.

@@ -10,7 +10,7 @@ ghost use Rattle.inode_table.specs.Inodes.{IsInode};
 ghost use Rattle.node_pages.specs.Changes.{PlansFor};
 ghost use Rattle.node_pages.specs.LookingUp.{CanLookUp, LooksUp, node_blocks, page_blocks};
 
-use crate::lookup::{number_in, read_table};
+use crate::lookup::number_in;
 use crate::sizes::{page_count, table_count};
 use inode_table::{DIRECT_PAGES, Inode, read_inode};
 use rio_base::{Block, BlockList, Blocks, Ino, ReadFail, VolFail, VolumeShape};
@@ -54,6 +54,7 @@ fn push_numbers(
 }
 
 /// Words of the indirect block of node `i`.
+#[tactic(auto, using(crate::proofs::LookingUpRules::can_table))]
 fn table_words<V: Blocks>(
     alloc: Global,
     v: &mut V,
@@ -76,7 +77,7 @@ fn table_words<V: Blocks>(
     ensures sound { V.sound v.new }
 {
     let mut words = vec![in alloc; 0u64; count as usize]?;
-    read_table(v, shape, i, table, from, &mut words)?;
+    v.read_run(table, None, from, &mut words)?;
     Ok(words)
 }
 
