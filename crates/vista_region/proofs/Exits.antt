@@ -113,14 +113,6 @@ handed_fault {T} {U} r q e d P told is same p = subst (λ x. OnFault x P) (sym (
     by WordFault told = p told
     by WordStopped told = tt
 
--- it is a fault or a stop
-pub handed_told : {U : Type 0} (q : Result U TxnFail) (e : VolFail) (d : TxnFail) → q ≡ Err d → d ≡ handed e → IsTold q → ⊥
-handed_told {U} q e d is same told = by e (subst (λ x. IsTold x) (is ∙ ap Err same) told)
-  where
-    by : (e : VolFail) → IsTold {T = U} (Err (handed e)) → ⊥
-    by WordFault told = told
-    by WordStopped told = told
-
 -- ---- one of the undo list, and one of the heap
 
 undo_as : {T U : Type 0} (s t : Health) (e : UndoFail) → EndsBy s t (IsErrOf {T = T} (Err e) UndoFault) (IsErrOf {T = T} (Err e) UndoStopped) → EndsBy s t (IsFault {T = U} (Err (undo_handed e))) (IsErrOf {T = U} (Err (undo_handed e)) Stopped)
@@ -247,22 +239,6 @@ ends_dooming {T} defined says old new i f g r q same kept ends = subst (λ x. Tx
     by : (r : Result T TxnFail) → ((IsFault r → ⊥) → new ≡ old) → TxnEnds defined says old old i f g r → TxnEnds defined says old new i f g r
     by (Ok v) kept h = subst (λ (ms : Marks). DoneAs defined ms i g (says v)) (sym (kept (λ a. a))) h
     by (Err e) kept h = refused_handed defined says says old new i f g (Err e) (Err e) e e refl refl refl kept h
-
--- a failure that no refusal is
-pub untold_ends : {T : Type 0} (defined : Outcome) (says : T → Reply) (old new : Marks) (i : ℕ) (f g : RegionContent) (q : Result T TxnFail) (d : TxnFail) → q ≡ Err d → (IsTold q → ⊥) → TxnEnds defined says old new i f g q
-untold_ends {T} defined says old new i f g q d is untold = subst (λ x. TxnEnds defined says old new i f g x) (sym is) (by d (λ told. untold (subst (λ x. IsTold x) (sym is) told)))
-  where
-    by : (d : TxnFail) → (IsTold {T = T} (Err d) → ⊥) → TxnEnds {T = T} defined says old new i f g (Err d)
-    by NoTransaction untold = absurd (untold tt)
-    by Doomed untold = absurd (untold tt)
-    by NotAligned untold = absurd (untold tt)
-    by OutOfRange untold = absurd (untold tt)
-    by NotCovered untold = absurd (untold tt)
-    by NotBlock untold = absurd (untold tt)
-    by HeapFull untold = absurd (untold tt)
-    by UndoFull untold = absurd (untold tt)
-    by (Fault k) untold = tt
-    by Stopped untold = tt
 
 -- ---- a run of stores that was cut off
 

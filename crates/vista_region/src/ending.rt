@@ -9,26 +9,11 @@ ghost use Rattle.rio_requests.specs.RegionAnswers.{abort_on, commit_on};
 ghost use Rattle.vista_region.specs.Ends.{Fits, IsFault, OnFault, TxnEnds, says_done};
 ghost use Rattle.vista_region.specs.Marks.{mark_of, set_mark, txn_in};
 ghost use Rattle.vista_region.specs.Regions.{region_now};
-ghost use Rattle.vista_region.specs.Steps.{IsTold};
 
 use crate::failures::TxnFail;
 use crate::open_table::OpenTable;
 use rio_base::{Ino, RegionWords, UNDO_HEAD, VolFail};
 use undo_list::{drop_all, rewind};
-
-/// Rewinds a region.
-fn put_back<R: RegionWords>(r: &mut R) -> Result<(), TxnFail>
-    requires ready { R.ready r.old }
-    requires region { IsRegion (R.count r.old) (R.words r.old) }
-    ensures ok { OnOk result (Undone (R.count r.old) (R.words r.old) (R.words r.new)) }
-    ensures told { IsErr result → IsTold result → ⊥ }
-    ensures fault { OnFault result (λ k. k ≡ 0) }
-    ensures before { Undoes (R.count r.old) (R.words r.old) (R.words r.new) }
-    ensures stays { Stays R.keeps_rest R.ready R.count R.health R.below r.old r.new }
-    ensures causes { EndsBy (R.health r.old) (R.health r.new) (IsFault result) (IsErrOf result TxnFail.Stopped) }
-{
-    Ok(rewind(r)?)
-}
 
 impl OpenTable {
     /// Ends the transaction by one store: its words stay. In this order: `NoTransaction`, `Doomed`. `Fault` leaves it open as
@@ -68,10 +53,17 @@ impl OpenTable {
         if self.mark(i).is_none() {
             return Err(TxnFail::NoTransaction);
         }
-        let back = put_back(r);
-        self.dooming(i, back)?;
-        self.close(i);
-        Ok(())
+        match rewind(r) {
+            Ok(()) => {
+                self.close(i);
+                Ok(())
+            }
+            Err(VolFail::Fault) => {
+                self.doom(i);
+                Err(TxnFail::Fault(0))
+            }
+            Err(VolFail::Stopped) => Err(TxnFail::Stopped),
+        }
     }
 }
 

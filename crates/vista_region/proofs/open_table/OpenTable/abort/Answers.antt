@@ -1,40 +1,16 @@
-use Rattle.vista_region.proofs.Common.{refl, ◌∙◌, sym, subst, ap, OnOk, not, err_from_is_err_and, IsRegion, Undone, Ok, Err, None, Some, Bool, true, ◌≡◌, true_false}
-use Rattle.std.specs.Prelude.{IsErr}
-use Rattle.vista_region.proofs.Ended.{abort_done, dooming_fits, not_stopped, some_of, fits_closed}
+use Rattle.vista_region.proofs.Common.{refl, ◌∙◌, sym, ap, not, Ok, Err, true, true_false}
+use Rattle.vista_region.proofs.Ended.{abort_done, fits_closed, fits_doomed, mark_set, some_of}
 use Rattle.std.proofs.Common.{le_refl}
 use Rattle.rio_model.proofs.UndoRules.{undoes_refl}
 use Rattle.undo_list.proofs.Outcomes.{stays_none}
 use Rattle.rio_requests.specs.RegionAnswers.{abort_on}
-use Rattle.vista_region.specs.Ends.{says_done}
-use Rattle.vista_region.specs.Marks.{mark_of, set_mark}
+use Rattle.vista_region.specs.Failures.{handed}
+use Rattle.vista_region.specs.Marks.{mark_of}
 use Rattle.vista_region.specs.Regions.{region_now}
-use Rattle.vista_region.proofs.Outcomes.{ok_apart}
 use Rattle.vista_region.proofs.Nodes.{unmarked}
-use Rattle.vista_region.proofs.Exits.{told_ends, told_as, ends_as, fault_as, fault_handed, ok_calm, untold_ends, none_of}
-use Rattle.vista_region.specs.declared.failures.TxnFail.TheVariants.{NoTransaction, Stopped}
+use Rattle.vista_region.proofs.Exits.{ends_handed, none_of, told_ends}
+use Rattle.vista_region.specs.declared.failures.TxnFail.TheVariants.{Fault, NoTransaction, Stopped}
 use Rattle.vista_region.proofs.open_table.OpenTable.abort.Goals as goal
-
-pub returns-in_err-dooming-clause-fits : goal.returns-in_err-dooming-clause-fits
-returns-in_err-dooming-clause-fits g c runs =
-    let last = g.R.RegionWords.words c.put_back-back.new.r in
-    let back = c.put_back-back.result in
-    let e = c.in_err-dooming.field-0.0 in
-    let is = sym c.dooming.ensures.same ∙ c.in_err-dooming.was in
-    let p = err_from_is_err_and c.from_residual.result c.from_residual.ensures.1 in
-    let call = c.put_back-back.ensures in
-    dooming_fits c.args.self.now c.dooming.new.self c.args.i.0 (g.R.RegionWords.count c.put_back-back.new.r) last back
-    (subst (λ n. IsRegion n last) (sym call.stays.count) call.before.region) c.dooming.ensures.kept c.dooming.ensures.doomed
-    (not_stopped back c.from_residual.result e p.0 is p.1 p.2 runs)
-    (λ told. absurd (call.told (subst (λ r. IsErr r) (sym is) refl) told))
-
-pub returns-clause-ends : goal.returns-clause-ends
-returns-clause-ends g c =
-    let n = g.R.RegionWords.count c.args.r.now in
-    let f = g.R.RegionWords.words c.args.r.now in
-    let last = g.R.RegionWords.words c.put_back-back.new.r in
-    let open_mark = some_of c.mark.result (c.is_none.ensures ∙ ap not c.if-is_none.false) in
-    abort_done c.args.self.now c.close.new.self c.args.i.0 n f last open_mark.0 (sym c.mark.ensures ∙ open_mark.1) c.close.ensures.gone
-    (subst (λ r. OnOk r (Undone n f last)) (sym c.dooming.ensures.same ∙ c.in_ok-dooming.was) c.put_back-back.ensures.ok)
 
 pub returns-then-is_none-clause-ends : goal.returns-then-is_none-clause-ends
 returns-then-is_none-clause-ends g c = (ap (abort_on (region_now (g.R.RegionWords.words c.args.r.now))) (unmarked c.args.self.now c.args.i.0 (g.R.RegionWords.words c.args.r.now) (sym c.mark.ensures ∙ none_of c.mark.result (c.is_none.ensures ∙ ap not c.if-is_none.true))), refl, refl)
@@ -54,44 +30,49 @@ returns-then-is_none-clause-stays g c = stays_none c.args.r.now (g.met.R.RegionW
 pub returns-then-is_none-clause-causes : goal.returns-then-is_none-clause-causes
 returns-then-is_none-clause-causes g c = told_ends {T = Unit {0}} _ _ (Err NoTransaction) tt (le_refl _) refl
 
-pub dooming-requires : goal.dooming-requires
-dooming-requires g c = record { some = ((some_of c.mark.result (c.is_none.ensures ∙ ap not c.if-is_none.false)).0, sym c.mark.ensures ∙ (some_of c.mark.result (c.is_none.ensures ∙ ap not c.if-is_none.false)).1) }
+-- ---- the words are those of before
 
-pub returns-in_err-dooming-clause-ends : goal.returns-in_err-dooming-clause-ends
-returns-in_err-dooming-clause-ends g c =
-    let p = err_from_is_err_and c.from_residual.result c.from_residual.ensures.1 in
-    untold_ends _ says_done c.args.self.now c.dooming.new.self c.args.i.0 (g.R.RegionWords.words c.args.r.now) (g.R.RegionWords.words c.put_back-back.new.r) c.from_residual.result _ p.1 (λ told. c.put_back-back.ensures.told (subst (λ r. IsErr r) (sym (sym c.dooming.ensures.same ∙ c.in_err-dooming.was)) refl) (told_as c.from_residual.result c.put_back-back.result _ _ p.1 (sym c.dooming.ensures.same ∙ c.in_err-dooming.was) (sym p.2) told))
+pub returns-in-Ok-clause-ends : goal.returns-in-Ok-clause-ends
+returns-in-Ok-clause-ends g c =
+    let n = g.R.RegionWords.count c.args.r.now in
+    let f = g.R.RegionWords.words c.args.r.now in
+    let last = g.R.RegionWords.words c.rewind.new.r in
+    let open_mark = some_of c.mark.result (c.is_none.ensures ∙ ap not c.if-is_none.false) in
+    abort_done c.args.self.now c.close.new.self c.args.i.0 n f last open_mark.0 (sym c.mark.ensures ∙ open_mark.1) c.close.ensures.gone c.in-Ok.ensures.ok
 
-pub returns-in_err-dooming-clause-closed : goal.returns-in_err-dooming-clause-closed
-returns-in_err-dooming-clause-closed g c =
-    let p = err_from_is_err_and c.from_residual.result c.from_residual.ensures.1 in
-    rw (p.1) tt
+pub returns-in-Ok-clause-table : goal.returns-in-Ok-clause-table
+returns-in-Ok-clause-table g c = λ h. absurd (true_false (sym h))
 
-pub returns-in_err-dooming-clause-table : goal.returns-in_err-dooming-clause-table
-returns-in_err-dooming-clause-table g c =
-    let p = err_from_is_err_and c.from_residual.result c.from_residual.ensures.1 in
-    λ h calm. c.dooming.ensures.kept (λ fault. calm (fault_as c.put_back-back.result c.from_residual.result _ _ (sym c.dooming.ensures.same ∙ c.in_err-dooming.was) p.1 p.2 fault))
+pub returns-in-Ok-clause-fits : goal.returns-in-Ok-clause-fits
+returns-in-Ok-clause-fits g c = λ runs. fits_closed c.close.new.self c.args.i.0 (g.R.RegionWords.count c.rewind.new.r) (g.R.RegionWords.words c.rewind.new.r) c.close.ensures.gone c.rewind.ensures.region c.in-Ok.ensures.ok.records
 
-pub returns-in_err-dooming-clause-doomed : goal.returns-in_err-dooming-clause-doomed
-returns-in_err-dooming-clause-doomed g c =
-    let p = err_from_is_err_and c.from_residual.result c.from_residual.ensures.1 in
-    fault_handed c.put_back-back.result c.from_residual.result _ _ (λ k. (k ≡ 0) × ((b : Bool) × (mark_of c.args.self.now c.args.i.0 ≡ Some b)) × (c.dooming.new.self ≡ set_mark c.args.self.now c.args.i.0 (Some true))) (sym c.dooming.ensures.same ∙ c.in_err-dooming.was) p.1 p.2 c.put_back-back.ensures.fault (λ fault. (refl, ((some_of c.mark.result (c.is_none.ensures ∙ ap not c.if-is_none.false)).0, sym c.mark.ensures ∙ (some_of c.mark.result (c.is_none.ensures ∙ ap not c.if-is_none.false)).1), c.dooming.ensures.doomed fault))
+pub returns-in-Ok-clause-causes : goal.returns-in-Ok-clause-causes
+returns-in-Ok-clause-causes g c = told_ends {T = Unit {0}} _ _ (Ok tt) tt c.rewind.ensures.ends.later c.in-Ok.ensures.ends.cause
 
-pub returns-in_err-dooming-clause-causes : goal.returns-in_err-dooming-clause-causes
-returns-in_err-dooming-clause-causes g c =
-    let p = err_from_is_err_and c.from_residual.result c.from_residual.ensures.1 in
-    ends_as _ _ c.put_back-back.result c.from_residual.result _ _ (sym c.dooming.ensures.same ∙ c.in_err-dooming.was) p.1 p.2 c.put_back-back.ensures.causes
+-- ---- the disk failed
 
-pub returns-clause-closed : goal.returns-clause-closed
-returns-clause-closed g c = c.close.ensures.rows ∙ ap (λ ms. set_mark ms c.args.i.0 None) (c.dooming.ensures.kept (ok_calm c.put_back-back.result _ (sym c.dooming.ensures.same ∙ c.in_ok-dooming.was)))
+pub doom-requires : goal.doom-requires
+doom-requires g c = record { some = ((some_of c.mark.result (c.is_none.ensures ∙ ap not c.if-is_none.false)).0, sym c.mark.ensures ∙ (some_of c.mark.result (c.is_none.ensures ∙ ap not c.if-is_none.false)).1) }
 
-pub returns-clause-table : goal.returns-clause-table
-returns-clause-table g c = λ h. absurd (true_false (sym h))
+pub returns-in-Err-Fault-clause-table : goal.returns-in-Err-Fault-clause-table
+returns-in-Err-Fault-clause-table g c = λ h calm. absurd (calm tt)
 
-pub returns-clause-fits : goal.returns-clause-fits
-returns-clause-fits g c =
-    let done : Undone (g.R.RegionWords.count c.args.r.now) (g.R.RegionWords.words c.args.r.now) (g.R.RegionWords.words c.put_back-back.new.r) = subst (λ r. OnOk r (Undone (g.R.RegionWords.count c.args.r.now) (g.R.RegionWords.words c.args.r.now) (g.R.RegionWords.words c.put_back-back.new.r))) (sym c.dooming.ensures.same ∙ c.in_ok-dooming.was) c.put_back-back.ensures.ok in
-    λ runs. fits_closed c.close.new.self c.args.i.0 (g.R.RegionWords.count c.put_back-back.new.r) (g.R.RegionWords.words c.put_back-back.new.r) c.close.ensures.gone (subst (λ k. IsRegion k (g.R.RegionWords.words c.put_back-back.new.r)) (sym c.put_back-back.ensures.stays.count) done.region) done.records
+pub returns-in-Err-Fault-clause-doomed : goal.returns-in-Err-Fault-clause-doomed
+returns-in-Err-Fault-clause-doomed g c = (refl, ((some_of c.mark.result (c.is_none.ensures ∙ ap not c.if-is_none.false)).0, sym c.mark.ensures ∙ (some_of c.mark.result (c.is_none.ensures ∙ ap not c.if-is_none.false)).1), c.doom.ensures)
 
-pub returns-clause-causes : goal.returns-clause-causes
-returns-clause-causes g c = told_ends {T = Unit {0}} _ _ (Ok tt) tt c.put_back-back.ensures.causes.later (c.put_back-back.ensures.causes.runs (λ stop. ok_apart c.in_ok-dooming.field-0 Stopped (sym (sym c.dooming.ensures.same ∙ c.in_ok-dooming.was) ∙ stop)))
+pub returns-in-Err-Fault-clause-fits : goal.returns-in-Err-Fault-clause-fits
+returns-in-Err-Fault-clause-fits g c = λ runs. fits_doomed c.doom.new.self c.args.i.0 (g.R.RegionWords.count c.rewind.new.r) (g.R.RegionWords.words c.rewind.new.r) (ap (λ ms. mark_of ms c.args.i.0) c.doom.ensures ∙ mark_set c.args.self.now c.args.i.0 true) c.rewind.ensures.region
+
+pub returns-in-Err-Fault-clause-causes : goal.returns-in-Err-Fault-clause-causes
+returns-in-Err-Fault-clause-causes g c = ends_handed {T = Unit {0}} {U = Unit {0}} _ _ (Err c.in-Err-Fault.field-0) (Err (Fault 0)) c.in-Err-Fault.field-0 (Fault 0) refl refl (sym (ap handed c.in-Err-Fault.field-0-is)) c.in-Err-Fault.ensures.ends
+
+-- ---- the machine stopped
+
+pub returns-in-Err-Stopped-clause-table : goal.returns-in-Err-Stopped-clause-table
+returns-in-Err-Stopped-clause-table g c = λ h calm. refl
+
+pub returns-in-Err-Stopped-clause-fits : goal.returns-in-Err-Stopped-clause-fits
+returns-in-Err-Stopped-clause-fits g c = λ runs. absurd (runs refl)
+
+pub returns-in-Err-Stopped-clause-causes : goal.returns-in-Err-Stopped-clause-causes
+returns-in-Err-Stopped-clause-causes g c = ends_handed {T = Unit {0}} {U = Unit {0}} _ _ (Err c.in-Err-Stopped.field-0) (Err Stopped) c.in-Err-Stopped.field-0 Stopped refl refl (sym (ap handed c.in-Err-Stopped.field-0-is)) c.in-Err-Stopped.ensures.ends
