@@ -28,7 +28,7 @@ pub fn bring<M: Machine>(m: &mut M, kind: PageKind, marks: &[bool]) -> Result<u3
     ensures ends { PhaseEnds (M.contents m.old) (M.contents m.new) (M.run m.old) (M.run m.new) (IsErrOf result VolFail.Fault) (IsErrOf result VolFail.Stopped) }
 {
     let count = write_due(m, kind, marks)?;
-    sync_all(m)?;
+    m.sync()?;
     Ok(count)
 }
 
@@ -134,19 +134,5 @@ fn write_page<M: Machine>(m: &mut M, k: u32) -> Result<(), VolFail>
     let block = load_tag(m, k).block();
     let page = counted_page_of(m, k);
     m.write_block(block, page)?;
-    Ok(())
-}
-
-/// Brings all that was written to the device.
-fn sync_all<M: Machine>(m: &mut M) -> Result<(), VolFail>
-    requires closed { (M.contents m.old).open_page ≡ None }
-    ensures endures { Endures none_apart (M.contents m.old) (M.contents m.new) }
-    ensures words { (M.contents m.new).words ≡ (M.contents m.old).words }
-    ensures disk { (M.contents m.new).disk ≡ (M.contents m.old).disk }
-    ensures synced { OnOk result ((b : ℕ) → is_pending (M.contents m.new).pending b ≡ false) }
-    ensures running { OnOk result ((M.run m.new).stopped ≡ false) }
-    ensures ends { PhaseEnds (M.contents m.old) (M.contents m.new) (M.run m.old) (M.run m.new) (IsErrOf result VolFail.Fault) (IsErrOf result VolFail.Stopped) }
-{
-    m.sync()?;
     Ok(())
 }
