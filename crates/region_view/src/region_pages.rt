@@ -161,8 +161,9 @@ fn read_more<V: Blocks>(
     Ok(end)
 }
 
-/// Reads a run of words of region `i`, part by part. After a failure `into` may hold anything.
-fn read_run<V: Blocks>(
+/// Reads words of region `i`, from word `at` on, as many as `into` has, part by part. After a failure `into` may hold
+/// anything.
+pub fn read_words<V: Blocks>(
     v: &mut V,
     shape: &VolumeShape,
     i: Ino,
@@ -189,32 +190,6 @@ fn read_run<V: Blocks>(
         done = read_more(v, shape, i, inode, at, done, into)?;
     }
     Ok(())
-}
-
-/// Reads words of region `i`, from word `at` on, as many as `into` has. After a failure `into` may hold anything.
-pub fn read_words<V: Volume>(
-    v: &mut V,
-    shape: &VolumeShape,
-    i: Ino,
-    inode: &Inode,
-    at: u32,
-    into: &mut [u64],
-) -> Result<(), VolFail>
-    requires sound { V.sound v.old }
-    requires ready { Ready shape.now (V.seen v.old) (V.kept v.old) }
-    requires region { (held_of shape.now (V.seen v.old).words i.0).kind ≡ 3 }
-    requires inode { IsInode (V.seen v.old).words i.0 inode.now }
-    requires few { at + length into.old < 2 ^ 32 }
-    requires place { 8 * (at + length into.old) ≤ (held_of shape.now (V.seen v.old).words i.0).size }
-    ensures value { OnOk result (AreWords (held_of shape.now (V.seen v.old).words i.0).word at (length into.old) into.new) }
-    ensures len { length into.new ≡ length into.old }
-    ensures words { (V.seen v.new).words ≡ (V.seen v.old).words }
-    ensures ready { Ready shape.now (V.seen v.new) (V.kept v.new) }
-    ensures passes { V.passes v.old v.new }
-    ensures ends { Ends (V.health v.old) (V.health v.new) result }
-    ensures sound { V.sound v.new }
-{
-    read_run(v, shape, i, inode, at, into)
 }
 
 /// Stores word `at` of region `i`. `Fault` changes nothing; `Stopped` leaves the old or the new word.

@@ -1,7 +1,7 @@
 use Rattle.region_view.proofs.Common.{length, ◌-◌, ◌≡◌, ◌≤◌, held_of}
 use Rattle.region_view.specs.Views.{CanRead}
 use Rattle.rio_base.specs.Regions.{AreWords}
-use Rattle.region_view.proofs.region_pages.read_run.Given as goal
+use Rattle.region_view.proofs.region_pages.read_words.Given as goal
 
 -- the first words are read
 abbrev pub invariant-loop-done : goal.invariant-loop-done
