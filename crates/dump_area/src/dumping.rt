@@ -4,7 +4,7 @@ ghost use Rattle.std.specs.Prelude.{◌≡◌, ◌<◌, ◌*◌, ◌/◌, ◌+�
 ghost use Rattle.rio_base.specs.Disks.{block_at};
 ghost use Rattle.dump_area.specs.DumpSteps.{DumpGoes};
 ghost use Rattle.dump_area.specs.Held.{HasZerosBehind, IsDumpable, IsHeld, IsSameDisk, IsSettled, NeverMixed, dump_steps};
-ghost use Rattle.dump_area.specs.Phases.{HasWords, HoldsNone, HoldsOnly, IsShut};
+ghost use Rattle.dump_area.specs.Phases.{HasWords, HoldsNone, IsShut};
 
 use crate::dump_blocks::DumpBlocks;
 use crate::failures::DumpFail;
@@ -32,7 +32,7 @@ pub fn dump<D: DumpBlocks>(words: &[u64], d: &mut D, room: &mut Vec<u64>) -> Res
 {
     shut(d, room)?;
     put_pages(words, d)?;
-    open(words, d, room)?;
+    put_front(DUMP_MAGIC, d, room)?;
     Ok(())
 }
 
@@ -66,22 +66,4 @@ fn write_pages<D: DumpBlocks>(words: &[u64], d: &mut D) -> Result<(), DiskFail>
         d.write(Block(1 + p as u32), &words[at..at + BLOCK_WORDS])?;
     }
     Ok(())
-}
-
-/// Opens block 0, where the blocks behind it have the words of an image.
-fn open<D: DumpBlocks>(words: &[u64], d: &mut D, room: &mut Vec<u64>) -> Result<(), DiskFail>
-    requires image { IsDumpable words.now }
-    requires room { length room.old.items ≡ 512 }
-    requires blocks { length words.now < 512 * length (D.contents d.old).blocks }
-    requires settled { IsSettled (D.contents d.old) }
-    requires words { HasWords (length words.now) words.now (D.contents d.old).blocks }
-    ensures room { length room.new.items ≡ 512 }
-    ensures disk { IsSameDisk (D.contents d.old) (D.contents d.new) }
-    ensures settled { OnOk result (IsSettled (D.contents d.new)) }
-    ensures held { OnOk result (IsHeld (D.contents d.new).blocks words.now) }
-    ensures zeros { OnOk result (HasZerosBehind (block_at (D.contents d.new).blocks 0)) }
-    ensures only { HoldsOnly words.now (D.contents d.new) }
-    ensures goes { DumpGoes 2 2 (IsOk result) (IsErrOf result DiskFail.Fault) (IsErrOf result DiskFail.Stopped) (D.run d.old) (D.run d.new) (D.contents d.old).faults (D.contents d.new).faults }
-{
-    put_front(DUMP_MAGIC, d, room)
 }

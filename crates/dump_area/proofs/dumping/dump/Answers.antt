@@ -4,7 +4,7 @@ use Rattle.rio_base.proofs.Exits.{none_ok}
 use Rattle.rio_base.proofs.MachineRules.{never}
 use Rattle.rio_base.specs.declared.failures.DiskFail.TheVariants.{Stopped}
 use Rattle.dump_area.specs.declared.failures.DumpFail.TheVariants.{Fault as DumpFault, Stopped as DumpStopped}
-use Rattle.dump_area.proofs.Holding.{mixed_keeps, mixed_none, mixed_only, same_then}
+use Rattle.dump_area.proofs.Holding.{front_held, front_only, mixed_keeps, mixed_none, mixed_only, same_then}
 use Rattle.dump_area.proofs.StepRuns.{goes_as, goes_told, goes_then}
 use Rattle.dump_area.proofs.dumping.dump.Goals as goal
 
@@ -69,45 +69,48 @@ returns-in_err-put_pages-clause-goes g c =
 
 -- ---- block 0 is not opened
 
-pub open-requires-clause-blocks : goal.open-requires-clause-blocks
-open-requires-clause-blocks g c = omega (arith, c.requires.blocks, c.shut.ensures.disk.count, c.put_pages.ensures.disk.count)
+pub put_front-requires-clause-block : goal.put_front-requires-clause-block
+put_front-requires-clause-block g c = omega (arith, c.requires.blocks, c.shut.ensures.disk.count, c.put_pages.ensures.disk.count)
 
-pub returns-in_err-open-clause-never_mixed : goal.returns-in_err-open-clause-never_mixed
-returns-in_err-open-clause-never_mixed g c = mixed_only c.args.words.now (g.D.DumpBlocks.contents c.args.d.now).blocks (g.D.DumpBlocks.contents c.open.new.d) c.open.ensures.only
+pub returns-in_err-put_front-clause-never_mixed : goal.returns-in_err-put_front-clause-never_mixed
+returns-in_err-put_front-clause-never_mixed g c = mixed_only c.args.words.now (g.D.DumpBlocks.contents c.args.d.now).blocks (g.D.DumpBlocks.contents c.put_front.new.d) (front_only _ _ _ c.requires.image c.in_ok-put_pages.ensures.words c.put_front.ensures.others)
 
-pub returns-in_err-open-clause-disk : goal.returns-in_err-open-clause-disk
-returns-in_err-open-clause-disk g c = same_then _ _ _ c.shut.ensures.disk (same_then _ _ _ c.put_pages.ensures.disk c.open.ensures.disk)
+pub returns-in_err-put_front-clause-disk : goal.returns-in_err-put_front-clause-disk
+returns-in_err-put_front-clause-disk g c = same_then _ _ _ c.shut.ensures.disk (same_then _ _ _ c.put_pages.ensures.disk c.put_front.ensures.others.disk)
 
-pub returns-in_err-open-clause-settled : goal.returns-in_err-open-clause-settled
-returns-in_err-open-clause-settled g c =
-    let p = err_from_is_err_and c.from_residual-in_err-open.result c.from_residual-in_err-open.ensures.1 in
+pub returns-in_err-put_front-clause-settled : goal.returns-in_err-put_front-clause-settled
+returns-in_err-put_front-clause-settled g c =
+    let p = err_from_is_err_and c.from_residual-in_err-put_front.result c.from_residual-in_err-put_front.ensures.1 in
     none_ok _ p.0 _ p.1
 
-pub returns-in_err-open-clause-held : goal.returns-in_err-open-clause-held
-returns-in_err-open-clause-held g c =
-    let p = err_from_is_err_and c.from_residual-in_err-open.result c.from_residual-in_err-open.ensures.1 in
+pub returns-in_err-put_front-clause-held : goal.returns-in_err-put_front-clause-held
+returns-in_err-put_front-clause-held g c =
+    let p = err_from_is_err_and c.from_residual-in_err-put_front.result c.from_residual-in_err-put_front.ensures.1 in
     none_ok _ p.0 _ p.1
 
-pub returns-in_err-open-clause-zeros : goal.returns-in_err-open-clause-zeros
-returns-in_err-open-clause-zeros g c =
-    let p = err_from_is_err_and c.from_residual-in_err-open.result c.from_residual-in_err-open.ensures.1 in
+pub returns-in_err-put_front-clause-zeros : goal.returns-in_err-put_front-clause-zeros
+returns-in_err-put_front-clause-zeros g c =
+    let p = err_from_is_err_and c.from_residual-in_err-put_front.result c.from_residual-in_err-put_front.ensures.1 in
     none_ok _ p.0 _ p.1
 
-pub returns-in_err-open-clause-goes : goal.returns-in_err-open-clause-goes
-returns-in_err-open-clause-goes g c =
-    let p = err_from_is_err_and c.from_residual-in_err-open.result c.from_residual-in_err-open.ensures.1 in
+pub returns-in_err-put_front-clause-goes : goal.returns-in_err-put_front-clause-goes
+returns-in_err-put_front-clause-goes g c =
+    let p = err_from_is_err_and c.from_residual-in_err-put_front.result c.from_residual-in_err-put_front.ensures.1 in
     goes_told _ _ _ _ _ _ _ _ _ _ (p.1 ∙ ap Err p.2) (omega arith) (omega arith)
-    (goes_then _ _ _ _ _ _ _ _ _ _ _ _ _ _ _ _ refl (never _ Stopped) c.in_ok-shut.ensures.goes (goes_then _ _ _ _ _ _ _ _ _ _ _ _ _ _ _ _ refl (never _ Stopped) c.in_ok-put_pages.ensures.goes c.in_err-open.ensures.goes))
+    (goes_then _ _ _ _ _ _ _ _ _ _ _ _ _ _ _ _ refl (never _ Stopped) c.in_ok-shut.ensures.goes (goes_then _ _ _ _ _ _ _ _ _ _ _ _ _ _ _ _ refl (never _ Stopped) c.in_ok-put_pages.ensures.goes c.in_err-put_front.ensures.goes))
 
 -- ---- all is done
 
 pub returns-clause-never_mixed : goal.returns-clause-never_mixed
-returns-clause-never_mixed g c = mixed_only c.args.words.now (g.D.DumpBlocks.contents c.args.d.now).blocks (g.D.DumpBlocks.contents c.open.new.d) c.open.ensures.only
+returns-clause-never_mixed g c = mixed_only c.args.words.now (g.D.DumpBlocks.contents c.args.d.now).blocks (g.D.DumpBlocks.contents c.put_front.new.d) (front_only _ _ _ c.requires.image c.in_ok-put_pages.ensures.words c.put_front.ensures.others)
+
+pub returns-clause-held : goal.returns-clause-held
+returns-clause-held g c = front_held _ _ _ c.requires.image (omega (arith, c.requires.blocks, c.shut.ensures.disk.count, c.put_pages.ensures.disk.count)) c.in_ok-put_pages.ensures.words c.put_front.ensures.others c.in_ok-put_front.ensures.first
 
 pub returns-clause-disk : goal.returns-clause-disk
-returns-clause-disk g c = same_then _ _ _ c.shut.ensures.disk (same_then _ _ _ c.put_pages.ensures.disk c.open.ensures.disk)
+returns-clause-disk g c = same_then _ _ _ c.shut.ensures.disk (same_then _ _ _ c.put_pages.ensures.disk c.put_front.ensures.others.disk)
 
 pub returns-clause-goes : goal.returns-clause-goes
 returns-clause-goes g c =
     goes_as _ _ _ _ _ _ _ _ _ _ _ _ _ _ (omega arith) (λ u. (refl, omega arith)) (omega arith) (λ e. absurd (never _ DumpFault e)) (λ e. absurd (never _ DumpStopped e)) (λ e. absurd (never _ Stopped e))
-    (goes_then _ _ _ _ _ _ _ _ _ _ _ _ _ _ _ _ refl (never _ Stopped) c.in_ok-shut.ensures.goes (goes_then _ _ _ _ _ _ _ _ _ _ _ _ _ _ _ _ refl (never _ Stopped) c.in_ok-put_pages.ensures.goes c.in_ok-open.ensures.goes))
+    (goes_then _ _ _ _ _ _ _ _ _ _ _ _ _ _ _ _ refl (never _ Stopped) c.in_ok-shut.ensures.goes (goes_then _ _ _ _ _ _ _ _ _ _ _ _ _ _ _ _ refl (never _ Stopped) c.in_ok-put_pages.ensures.goes c.in_ok-put_front.ensures.goes))
