@@ -2,7 +2,7 @@
 
 ghost use Rattle.std.specs.Prelude.{◌≡◌, ℕ, ◌+◌, ◌*◌, ◌/◌, ◌<◌, ◌≤◌, ◌⊎◌, IfOk, IsErrOf, OnOk};
 ghost use Rattle.rio_base.specs.Blocks.{EndsBy};
-ghost use Rattle.rio_base.specs.Regions.{Stays};
+ghost use Rattle.rio_base.specs.Frames.{Stays};
 ghost use Rattle.rio_model.specs.Undo.{IsRegion, Undoes, live, taken, undo_records, undo_words};
 ghost use Rattle.rio_model.specs.Heap.{Allocates, IsBlock, IsFirstFit, IsGap, OfBlocks, Releases, heap_blocks, touched_pages, units_of, with_block, without_block};
 

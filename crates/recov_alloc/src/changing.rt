@@ -2,7 +2,7 @@
 
 ghost use Rattle.std.specs.Prelude.{◌≡◌, ◌+◌, ◌*◌, ◌/◌, ◌%◌, ◌<◌, ◌≤◌, IsErrOf, OnOk, if◌then◌else◌};
 ghost use Rattle.rio_base.specs.Blocks.{EndsBy};
-ghost use Rattle.rio_base.specs.Regions.{Stays};
+ghost use Rattle.rio_base.specs.Frames.{Stays};
 ghost use Rattle.rio_model.specs.Undo.{Gains, IsRegion, Undoes, taken, undo_records, undo_words};
 ghost use Rattle.rio_model.specs.Heap.{touched_pages, units_of};
 ghost use Rattle.undo_list.specs.Records.{IsHeader};

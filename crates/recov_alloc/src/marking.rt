@@ -2,7 +2,8 @@
 
 ghost use Rattle.std.specs.Prelude.{◌≡◌, ◌+◌, ◌*◌, ◌/◌, ◌%◌, ◌<◌, ◌≤◌, OnOk, if◌then◌else◌, length};
 ghost use Rattle.rio_base.specs.Blocks.{Ends};
-ghost use Rattle.rio_base.specs.Regions.{AreWords, Stays};
+ghost use Rattle.rio_base.specs.Regions.{AreWords};
+ghost use Rattle.rio_base.specs.Frames.{Stays};
 ghost use Rattle.rio_model.specs.Undo.{CoversAll, IsRegion, Keeps, live, undo_records};
 ghost use Rattle.rio_model.specs.Heap.{units_of};
 ghost use Rattle.recov_alloc.specs.Marks.{MapCovered, MarksBlock, StoresPair};

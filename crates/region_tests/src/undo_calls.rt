@@ -1,7 +1,7 @@
 //! Calls on a region and its undo list, and what each answers.
 
 ghost use Rattle.std.specs.Prelude.{◌<◌, ◌≤◌, ◌+◌, length};
-ghost use Rattle.rio_base.specs.Regions.{Stays};
+ghost use Rattle.rio_base.specs.Frames.{Stays};
 ghost use Rattle.rio_model.specs.Undo.{CoversAll, IsRegion, places, undo_records};
 
 use rio_base::{RegionWords, RunFail, VolFail};

@@ -5,6 +5,7 @@ pub mod BlockSets
 pub mod Bytes
 pub mod DecimalDigits
 pub mod Exits
+pub mod Frames
 pub mod HostPieces
 pub mod MachineRules
 pub mod RegionRules

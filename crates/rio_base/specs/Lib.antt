@@ -4,6 +4,7 @@ pub mod Blocks
 pub mod Bytes
 pub mod Disks
 pub mod Failures
+pub mod Frames
 pub mod Hosts
 pub mod Image
 pub mod Layout

@@ -1,7 +1,5 @@
--- The words of one region's file, and what every call on them leaves so.
+-- The words of one region's file.
 use Rattle.std.specs.Prelude.{◌≡◌, ℕ, ◌+◌, ◌-◌, ◌<◌, ◌≤◌, ◌==◌, ◌&&◌, not, nat_lt, if◌then◌else◌, ◌⊎◌, List, slice_index}
-use Rattle.rio_base.specs.Blocks.{Health}
-use Rattle.rio_base.specs.Volume.{Below, Goes}
 
 abbrev pub RegionContent : Type 0
 RegionContent = ℕ → ℕ
@@ -25,11 +23,3 @@ OldOrPutWords old new at words most = (n : ℕ) × (n ≤ most) × (new ≡ put_
 -- the first n of these are the words from place `at` on
 pub record AreWords (f : RegionContent) (at n : ℕ) (words : List ℕ) : Type 0 where
   pub each : (i : ℕ) → i < n → slice_index words i ≡ f (at + i)
-
--- what every call on a region's words leaves so: all beside these words, that it stands on a region, how many words that
--- has, and how the machine below goes on
-pub record Stays {S : Type 0} (keeps : S → S → Type 0) (stands : S → Type 0) (size : S → ℕ) (health : S → Health) (below : S → Below) (x y : S) : Type 0 where
-  pub rest : keeps x y
-  pub ready : stands y
-  pub count : size y ≡ size x
-  pub goes : Goes (health x) (below x) (health y) (below y)

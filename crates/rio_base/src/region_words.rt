@@ -3,7 +3,8 @@
 ghost use Rattle.std.specs.Prelude.{◌≡◌, ◌<◌, ◌≤◌, ◌+◌, ◌^◌, ℕ, Some, IfOk, OnOk, IsErrOf, length};
 ghost use Rattle.rio_base.specs.Blocks.{Ends, FaultAt, Health, as_word};
 ghost use Rattle.rio_base.specs.Volume.{Below};
-ghost use Rattle.rio_base.specs.Regions.{AreWords, OldOrPutWord, OldOrPutWords, RegionContent, Stays, put_word, put_words};
+ghost use Rattle.rio_base.specs.Regions.{AreWords, OldOrPutWord, OldOrPutWords, RegionContent, put_word, put_words};
+ghost use Rattle.rio_base.specs.Frames.{Stays};
 
 use crate::failures::{RunFail, VolFail};
 

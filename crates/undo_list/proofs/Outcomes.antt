@@ -6,7 +6,7 @@ use Rattle.rio_base.specs.declared.failures.VolFail.{VolFail}
 use Rattle.rio_base.specs.declared.failures.VolFail.TheVariants.{Fault as WordFault, Stopped as WordStopped}
 use Rattle.rio_base.specs.declared.failures.RunFail.TheVariants.{Fault, Stopped}
 use Rattle.rio_base.specs.Blocks.{Ends, EndsBy, FaultAt, Health, as_word}
-use Rattle.rio_base.specs.Regions.{Stays}
+use Rattle.rio_base.specs.Frames.{Stays}
 use Rattle.rio_base.specs.Rules.{goes_refl}
 use Rattle.rio_base.specs.Volume.{Below}
 use Rattle.rio_base.proofs.Rules.{ends_by, ends_by_as, ends_by_well}

@@ -2,7 +2,7 @@
 
 ghost use Rattle.std.specs.Prelude.{◌≡◌, ℕ, ◌+◌, ◌-◌, ◌*◌, ◌<◌, ◌≤◌, ◌⊎◌, IfOk, MatchBool, length};
 ghost use Rattle.rio_base.specs.Blocks.{Ends};
-ghost use Rattle.rio_base.specs.Regions.{Stays};
+ghost use Rattle.rio_base.specs.Frames.{Stays};
 ghost use Rattle.rio_model.specs.Undo.{CoversAll, IsRegion, places, undo_records};
 ghost use Rattle.undo_list.specs.Records.{Awaits, MarksRecord};
 ghost use Rattle.undo_list.specs.Bits.{mark_of};

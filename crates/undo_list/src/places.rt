@@ -2,7 +2,8 @@
 
 ghost use Rattle.std.specs.Prelude.{◌≡◌, ◌+◌, ◌<◌, ◌≤◌, IfOk, OnOk, length};
 ghost use Rattle.rio_base.specs.Blocks.{Ends, FaultAt, as_word};
-ghost use Rattle.rio_base.specs.Regions.{AreWords, Stays};
+ghost use Rattle.rio_base.specs.Regions.{AreWords};
+ghost use Rattle.rio_base.specs.Frames.{Stays};
 ghost use Rattle.rio_model.specs.Undo.{CoversAll, IsRegion, Puts, live, places, undo_records};
 ghost use Rattle.undo_list.specs.Stages.{PutsFront};
 

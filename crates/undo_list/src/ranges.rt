@@ -2,7 +2,7 @@
 
 ghost use Rattle.std.specs.Prelude.{◌≡◌, ℕ, ◌+◌, ◌*◌, ◌<◌, ◌≤◌, ◌⊎◌, IfOk, IsErrOf, OnOk};
 ghost use Rattle.rio_base.specs.Blocks.{Ends, EndsBy};
-ghost use Rattle.rio_base.specs.Regions.{Stays};
+ghost use Rattle.rio_base.specs.Frames.{Stays};
 ghost use Rattle.rio_model.specs.Undo.{Gains, IsRegion, Rests, Undoes, live, places, taken, undo_records, undo_words};
 ghost use Rattle.undo_list.specs.Records.{IsHeader};
 ghost use Rattle.undo_list.specs.Stages.{Off, Staged};

@@ -2,7 +2,7 @@
 
 ghost use Rattle.std.specs.Prelude.{◌≡◌, ◌<◌, IfOk, List};
 ghost use Rattle.rio_base.specs.Blocks.{Ends};
-ghost use Rattle.rio_base.specs.Regions.{Stays};
+ghost use Rattle.rio_base.specs.Frames.{Stays};
 ghost use Rattle.rio_model.specs.Undo.{IsRegion, UndoRecord, taken, undo_records};
 ghost use Rattle.undo_list.specs.Records.{IsChain, IsHeader, IsNewest};
 

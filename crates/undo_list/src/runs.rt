@@ -2,7 +2,7 @@
 
 ghost use Rattle.std.specs.Prelude.{◌≡◌, ◌+◌, ◌<◌, ◌≤◌, OnOk, length};
 ghost use Rattle.rio_base.specs.Blocks.{Ends};
-ghost use Rattle.rio_base.specs.Regions.{Stays};
+ghost use Rattle.rio_base.specs.Frames.{Stays};
 ghost use Rattle.undo_list.specs.Stages.{Apart, CopiedFront, copied};
 
 use crate::failures::uncounted;

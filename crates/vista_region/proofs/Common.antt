@@ -9,7 +9,8 @@ pub use Rattle.std.specs.List.{range_with_len}
 pub use Rattle.std.specs.Prelude.{IsErrOf, OnOk, is_some, nat_eq, not}
 pub use Rattle.rio_base.proofs.RegionRules.{stays_trans}
 pub use Rattle.rio_base.specs.Blocks.{FaultAt}
-pub use Rattle.rio_base.specs.Regions.{RegionContent, Stays}
+pub use Rattle.rio_base.specs.Regions.{RegionContent}
+pub use Rattle.rio_base.specs.Frames.{Stays}
 pub use Rattle.rio_base.specs.Rules.{true_false}
 pub use Rattle.rio_base.specs.declared.failures.RunFail.{RunFail}
 pub use Rattle.rio_model.specs.Heap.{OfBlocks, heap_blocks, units_of}

@@ -2,7 +2,7 @@
 
 ghost use Rattle.std.specs.Prelude.{◌≡◌, ℕ, ◌+◌, ◌-◌, ◌*◌, ◌/◌, ◌%◌, ◌<◌, ◌≤◌, ◌⊎◌, Ok, Err, Some, IfErr, IfOk, IsErrOf, MatchBool, OnOk, length};
 ghost use Rattle.rio_base.specs.Blocks.{EndsBy};
-ghost use Rattle.rio_base.specs.Regions.{Stays};
+ghost use Rattle.rio_base.specs.Frames.{Stays};
 ghost use Rattle.rio_base.specs.declared.places.Ino.{Ino};
 ghost use Rattle.rio_model.specs.Undo.{Undoes, map_pages};
 ghost use Rattle.rio_requests.specs.RegionAnswers.{get_on, put_on, range_on};

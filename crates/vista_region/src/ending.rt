@@ -2,7 +2,7 @@
 
 ghost use Rattle.std.specs.Prelude.{◌≡◌, ◌⊎◌, [], Bool, false, true, None, Some, IfOk, IsErr, IsErrOf, MatchBool, OnOk};
 ghost use Rattle.rio_base.specs.Blocks.{Ends, EndsBy};
-ghost use Rattle.rio_base.specs.Regions.{Stays};
+ghost use Rattle.rio_base.specs.Frames.{Stays};
 ghost use Rattle.rio_base.specs.declared.places.Ino.{Ino};
 ghost use Rattle.rio_model.specs.Undo.{Dropped, IsRegion, Undoes, Undone, undo_records};
 ghost use Rattle.rio_requests.specs.RegionAnswers.{abort_on, commit_on};

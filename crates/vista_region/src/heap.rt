@@ -2,7 +2,7 @@
 
 ghost use Rattle.std.specs.Prelude.{◌≡◌, ℕ, ◌≤◌, Bool, true, false, Some, IsErrOf};
 ghost use Rattle.rio_base.specs.Blocks.{EndsBy};
-ghost use Rattle.rio_base.specs.Regions.{Stays};
+ghost use Rattle.rio_base.specs.Frames.{Stays};
 ghost use Rattle.rio_base.specs.declared.places.Ino.{Ino};
 ghost use Rattle.rio_model.specs.Undo.{IsRegion, Undoes, live};
 ghost use Rattle.rio_model.specs.Heap.{OfBlocks};

@@ -2,7 +2,7 @@
 
 ghost use Rattle.std.specs.Prelude.{◌≡◌, ◌+◌, ◌-◌, ◌*◌, ◌/◌, ◌%◌, ◌<◌, ◌≤◌, ◌++◌, length, slice_index, None, IfErr, IsErrOf, OnOk};
 ghost use Rattle.rio_base.specs.Blocks.{Ends, EndsBy, FaultAt, as_word};
-ghost use Rattle.rio_base.specs.Regions.{Stays};
+ghost use Rattle.rio_base.specs.Frames.{Stays};
 ghost use Rattle.rio_model.specs.Held.{bytes_in};
 ghost use Rattle.rio_model.specs.Undo.{CoversAll, IsRegion, Keeps, Puts, live, places, undo_records};
 ghost use Rattle.rio_requests.specs.RegionAnswers.{words_of};

@@ -1,5 +1,5 @@
 use Rattle.std.proofs.Common.{◌≡◌, ◌≤◌, ◌*◌, ◌-◌}
-use Rattle.rio_base.specs.Regions.{Stays}
+use Rattle.rio_base.specs.Frames.{Stays}
 use Rattle.rio_model.specs.Undo.{IsRegion, live}
 use Rattle.recov_alloc.specs.Scans.{Before}
 use Rattle.recov_alloc.proofs.fitting.fit_from.Given as goal

@@ -1,5 +1,5 @@
 use Rattle.std.proofs.Common.{◌≡◌, ◌≤◌, ◌*◌, ◌-◌, ◌++◌}
-use Rattle.rio_base.specs.Regions.{Stays}
+use Rattle.rio_base.specs.Frames.{Stays}
 use Rattle.rio_model.specs.Undo.{IsRegion, live}
 use Rattle.rio_model.specs.Heap.{blocks_from, heap_blocks, units_of}
 use Rattle.recov_alloc.proofs.listing.blocks.Given as goal

@@ -1,5 +1,5 @@
 use Rattle.std.proofs.Common.{◌≡◌, ◌≤◌, ◌-◌, cond}
-use Rattle.rio_base.specs.Regions.{Stays}
+use Rattle.rio_base.specs.Frames.{Stays}
 use Rattle.rio_model.specs.Undo.{IsRegion, Keeps, live}
 use Rattle.recov_alloc.proofs.MarksLaws.{MarksUnits}
 use Rattle.recov_alloc.proofs.marking.mark_block.Given as goal

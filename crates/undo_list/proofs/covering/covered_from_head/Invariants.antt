@@ -1,5 +1,5 @@
 use Rattle.std.proofs.Common.{◌≡◌, ◌≤◌, ◌-◌}
-use Rattle.rio_base.specs.Regions.{Stays}
+use Rattle.rio_base.specs.Frames.{Stays}
 use Rattle.rio_model.specs.Undo.{CoversAll, IsRegion, undo_records}
 use Rattle.undo_list.proofs.covering.covered_from_head.Given as goal
 

@@ -1,5 +1,5 @@
 use Rattle.std.proofs.Common.{◌≡◌, ◌≤◌, List}
-use Rattle.rio_base.specs.Regions.{Stays}
+use Rattle.rio_base.specs.Frames.{Stays}
 use Rattle.rio_model.specs.Undo.{IsRegion, UndoRecord, undo_records}
 use Rattle.undo_list.specs.Records.{IsChain}
 use Rattle.undo_list.proofs.Covers.{Leaves}

@@ -1,5 +1,5 @@
 use Rattle.std.proofs.Common.{◌≡◌, ◌≤◌}
-use Rattle.rio_base.specs.Regions.{Stays}
+use Rattle.rio_base.specs.Frames.{Stays}
 use Rattle.rio_model.specs.Undo.{IsRegion, undo_records}
 use Rattle.undo_list.proofs.MarkedRecords.{Marking}
 use Rattle.undo_list.proofs.covering.covers_marking.Given as goal

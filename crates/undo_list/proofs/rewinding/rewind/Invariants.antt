@@ -1,5 +1,5 @@
 use Rattle.std.proofs.Common.{◌≡◌, ◌≤◌}
-use Rattle.rio_base.specs.Regions.{Stays}
+use Rattle.rio_base.specs.Frames.{Stays}
 use Rattle.rio_model.specs.Undo.{IsRegion, Undoes}
 use Rattle.undo_list.proofs.rewinding.rewind.Given as goal
 

@@ -1,5 +1,5 @@
 use Rattle.std.proofs.Common.{◌≡◌, ◌≤◌, ◌-◌}
-use Rattle.rio_base.specs.Regions.{Stays}
+use Rattle.rio_base.specs.Frames.{Stays}
 use Rattle.undo_list.specs.Stages.{copied}
 use Rattle.undo_list.proofs.runs.copy_by_runs.Given as goal
 

@@ -1,5 +1,6 @@
 use Rattle.std.proofs.Common.{◌≡◌, length}
-use Rattle.rio_base.specs.Regions.{AreWords, Stays}
+use Rattle.rio_base.specs.Regions.{AreWords}
+use Rattle.rio_base.specs.Frames.{Stays}
 use Rattle.rio_base.proofs.BlockRuns.{Ran}
 use Rattle.rio_base.proofs.region_words.RegionWords.read_run.Given as goal
 

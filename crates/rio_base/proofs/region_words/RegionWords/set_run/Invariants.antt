@@ -1,5 +1,6 @@
 use Rattle.std.proofs.Common.{◌≡◌}
-use Rattle.rio_base.specs.Regions.{Stays, put_words}
+use Rattle.rio_base.specs.Regions.{put_words}
+use Rattle.rio_base.specs.Frames.{Stays}
 use Rattle.rio_base.proofs.BlockRuns.{Ran}
 use Rattle.rio_base.proofs.region_words.RegionWords.set_run.Given as goal
 
