@@ -53,8 +53,8 @@ pub read_none : {V : Type 0} {seen : V → Seen} {health : V → Health} {sound 
 read_none pass same keeps = record { looks = same; passed = pass; ends = well_ended _ _ (le_refl _) refl; keeps = keeps }
 
 -- one may read on
-pub can_on : {V : Type 0} {seen : V → Seen} {health : V → Health} {sound : V → Type 0} {passes : V → V → Type 0} {look : Seen → Seen → Type 0} {asks : Seen → Type 0} {x y : V} {fault stop : Type 0} → (look (seen x) (seen y) → asks (seen y)) → HasRead seen health sound passes look x y fault stop → CanRead seen sound asks y
-can_on still h = record { keeps = h.keeps; blocks = still h.looks }
+pub can_on : {V : Type 0} {seen : V → Seen} {health : V → Health} {sound : V → Type 0} {passes : V → V → Type 0} {look : Seen → Seen → Type 0} {asks : Seen → Type 0} {x y : V} {fault stop : Type 0} → HasRead seen health sound passes look x y fault stop → (look (seen x) (seen y) → asks (seen y)) → CanRead seen sound asks y
+can_on h still = record { keeps = h.keeps; blocks = still h.looks }
 
 -- and then something else was read
 pub read_then : {V : Type 0} {seen : V → Seen} {health : V → Health} {sound : V → Type 0} {passes : V → V → Type 0} {look : Seen → Seen → Type 0} {x y z : V} {fault stop : Type 0} → ((x y z : V) → passes x y → passes y z → passes x z) → ((s t u : Seen) → look s t → look t u → look s u) → HasRead seen health sound passes look x y ⊥ ⊥ → HasRead seen health sound passes look y z fault stop → HasRead seen health sound passes look x z fault stop
