@@ -54,7 +54,7 @@ read_none pass same keeps = record { looks = same; passed = pass; ends = well_en
 
 -- one may read on
 pub can_on : {V : Type 0} {seen : V → Seen} {health : V → Health} {sound : V → Type 0} {passes : V → V → Type 0} {look : Seen → Seen → Type 0} {asks : Seen → Type 0} {x y : V} {fault stop : Type 0} → HasRead seen health sound passes look x y fault stop → (look (seen x) (seen y) → asks (seen y)) → CanRead seen sound asks y
-can_on h still = record { keeps = h.keeps; blocks = still h.looks }
+can_on h still = record { keeps = h.keeps; meets = still h.looks }
 
 -- and then something else was read
 pub read_then : {V : Type 0} {seen : V → Seen} {health : V → Health} {sound : V → Type 0} {passes : V → V → Type 0} {look : Seen → Seen → Type 0} {x y z : V} {fault stop : Type 0} → ((x y z : V) → passes x y → passes y z → passes x z) → ((s t u : Seen) → look s t → look t u → look s u) → HasRead seen health sound passes look x y ⊥ ⊥ → HasRead seen health sound passes look y z fault stop → HasRead seen health sound passes look x z fault stop

@@ -17,7 +17,7 @@ use Rattle.rio_base.specs.Volume.{Below, Firm, Goes, Kept, SameUpdate}
 -- the object is sound, and its blocks are as the call asks
 pub record CanRead {V : Type 0} (seen : V → Seen) (sound : V → Type 0) (asks : Seen → Type 0) (v : V) : Type 0 where
   pub keeps : sound v
-  pub blocks : asks (seen v)
+  pub meets : asks (seen v)
 
 -- the object was only read: `look` is so of its blocks before and after, a fault and a stop have their causes, and it is sound
 pub record HasRead {V : Type 0} (seen : V → Seen) (health : V → Health) (sound : V → Type 0) (passes : V → V → Type 0) (look : Seen → Seen → Type 0) (x y : V) (fault stop : Type 0) : Type 0 where
