@@ -8,6 +8,7 @@ use Rattle.rio_model.specs.NodeChanges.{SetsFile}
 use Rattle.rio_model.specs.VolumeReady.{StandsReady}
 use Rattle.rio_model.proofs.NodeOrder.{same_nodes}
 use Rattle.rio_model.proofs.StateSteps.{file_set}
+use Rattle.rio_model.specs.declared.refusal.Refusal.TheVariants.{TooLarge, NoSpace}
 use Rattle.file_pages.specs.Files.{HasSpace, SetsBoth, file_bytes}
 use Rattle.rio_requests.specs.Answers.{wanted, truncate_in, with_size}
 use Rattle.request_ends.specs.Ends.{FileEnds, Left, SaysDone, Stands}
@@ -41,17 +42,17 @@ room_true shape f s size len a reads space =
     let room = space.room in
     let fits : nat_lt largest_size len ≡ false = grind (arith, nat_tests, most) in
     let enough : nat_lt (free_count s) (wanted size len) ≡ false = grind (arith, nat_tests, free, room) in
-    ap (λ b. cond b (refused s 10) (with_room s (wanted size len) a)) fits ∙ ap (λ b. cond b (refused s 11) a) enough
+    ap (λ b. cond b (refused s TooLarge) (with_room s (wanted size len) a)) fits ∙ ap (λ b. cond b (refused s NoSpace) a) enough
 
-pub too_large : (s : State) (size len : ℕ) (a : Answered) → largest_size < len → with_size s size len a ≡ refused s 10
-too_large s size len a past = let test : nat_lt largest_size len ≡ true = grind (arith, nat_tests, past) in ap (λ b. cond b (refused s 10) (with_room s (wanted size len) a)) test
+pub too_large : (s : State) (size len : ℕ) (a : Answered) → largest_size < len → with_size s size len a ≡ refused s TooLarge
+too_large s size len a past = let test : nat_lt largest_size len ≡ true = grind (arith, nat_tests, past) in ap (λ b. cond b (refused s TooLarge) (with_room s (wanted size len) a)) test
 
-pub no_space : (shape : VolumeShape) (f : BlockWords) (s : State) (size len : ℕ) (a : Answered) → ReadsAs shape f s → len ≤ largest_size → length (free_blocks shape f) < wanted_blocks size len → with_size s size len a ≡ refused s 11
+pub no_space : (shape : VolumeShape) (f : BlockWords) (s : State) (size len : ℕ) (a : Answered) → ReadsAs shape f s → len ≤ largest_size → length (free_blocks shape f) < wanted_blocks size len → with_size s size len a ≡ refused s NoSpace
 no_space shape f s size len a reads most few =
     let free = free_by_state shape f s reads in
     let fits : nat_lt largest_size len ≡ false = grind (arith, nat_tests, most) in
     let lacks : nat_lt (free_count s) (wanted size len) ≡ true = grind (arith, nat_tests, free, few) in
-    ap (λ b. cond b (refused s 10) (with_room s (wanted size len) a)) fits ∙ ap (λ b. cond b (refused s 11) a) lacks
+    ap (λ b. cond b (refused s TooLarge) (with_room s (wanted size len) a)) fits ∙ ap (λ b. cond b (refused s NoSpace) a) lacks
 
 -- a file set to its own bytes is the state as it was
 pub with_same : (s : State) (i : ℕ) (n : Node) → get s.nodes i ≡ Some n → with_node s i n ≡ s

@@ -3,6 +3,7 @@ use Rattle.request_ends.proofs.Common.{◌≡◌, ℕ, zero, suc, ◌+◌, ◌<�
 use Rattle.rio_requests.specs.Answer.{on_file}
 use Rattle.std.specs.Prelude.{◌++◌, drop, length, take}
 use Rattle.rio_model.specs.FileParts.{IsLead, WritePart, put_at, written}
+use Rattle.rio_model.specs.declared.refusal.Refusal.TheVariants.{TooLarge, NoSpace}
 use Rattle.file_pages.specs.Files.{FaultsAfter, HasSpaceFor, ResizeStops, StopsAs, SetsBoth, file_bytes}
 use Rattle.file_pages.specs.Writing.{WriteStops}
 use Rattle.rio_requests.specs.Answers.{write_file, write_in, truncate_in, with_size}
@@ -16,13 +17,13 @@ use Rattle.file_data.proofs.FileData.{file_read, left_set, no_space, room_true, 
 pub resize_too_large : (T : Type 0) (shape : VolumeShape) (x : Seen) (k : Kept) (y : Seen) (j : Kept) (s : State) (i len : ℕ) → ReadsAs shape x.words s → (held_of shape x.words i).kind ≡ 2 → largest_size < len → LeavesInUse (volume_layout shape x.words) x k y j → FileEnds {T = T} SaysDone shape x k y j s (truncate_in s len i) (NoneDone s) (Err (Refused 10))
 resize_too_large T shape x k y j s i len reads file past leaves = (ap (λ (a : Answered). a.reply) is, ap (λ (a : Answered). a.next) is, leaves)
   where
-    is : truncate_in s len i ≡ refused s 10
+    is : truncate_in s len i ≡ refused s TooLarge
     is = truncated s i len _ (file_read shape x.words s i reads file) ∙ too_large s _ len _ past
 
 pub resize_no_space : (T : Type 0) (shape : VolumeShape) (x : Seen) (k : Kept) (y : Seen) (j : Kept) (s : State) (i len : ℕ) → ReadsAs shape x.words s → (held_of shape x.words i).kind ≡ 2 → len ≤ largest_size → length (free_blocks shape x.words) < wanted_blocks (length (file_bytes shape x.words i)) len → LeavesInUse (volume_layout shape x.words) x k y j → FileEnds {T = T} SaysDone shape x k y j s (truncate_in s len i) (NoneDone s) (Err (Refused 11))
 resize_no_space T shape x k y j s i len reads file most few leaves = (ap (λ (a : Answered). a.reply) is, ap (λ (a : Answered). a.next) is, leaves)
   where
-    is : truncate_in s len i ≡ refused s 11
+    is : truncate_in s len i ≡ refused s NoSpace
     is = truncated s i len _ (file_read shape x.words s i reads file) ∙ no_space shape x.words s _ len _ reads most few
 
 pub resize_fault : (T : Type 0) (shape : VolumeShape) (x : Seen) (k : Kept) (y : Seen) (j : Kept) (s : State) (i len : ℕ) → ReadsAs shape x.words s → (held_of shape x.words i).kind ≡ 2 → Ready shape y j → SetsBoth shape x.words y j i (file_bytes shape x.words i) → FileEnds {T = T} SaysDone shape x k y j s (truncate_in s len i) (NoneDone s) (Err (Fault 0))
@@ -68,7 +69,7 @@ write_too_large says shape x k y j s off bytes i leads reads file some past leav
     whole : (a : Answered) × (write_file s off bytes i (file_bytes shape x.words i) ≡ with_size s (length (file_bytes shape x.words i)) (off + length bytes) a)
     whole = some_bytes s off bytes i (file_bytes shape x.words i) some
 
-    is : write_in s off bytes i ≡ refused s 10
+    is : write_in s off bytes i ≡ refused s TooLarge
     is = written_in s off bytes i _ (file_read shape x.words s i reads file) ∙ whole.1 ∙ too_large s _ (off + length bytes) whole.0 past
 
 pub write_no_space : {T : Type 0} (says : T → Reply → Type 0) (shape : VolumeShape) (x : Seen) (k : Kept) (y : Seen) (j : Kept) (s : State) (off : ℕ) (bytes : List ℕ) (i : ℕ) (leads : ℕ → State → Type 0) → ReadsAs shape x.words s → (held_of shape x.words i).kind ≡ 2 → 0 < length bytes → off + length bytes ≤ largest_size → length (free_blocks shape x.words) < wanted_blocks (length (file_bytes shape x.words i)) (off + length bytes) → LeavesInUse (volume_layout shape x.words) x k y j → FileEnds {T = T} says shape x k y j s (write_in s off bytes i) leads (Err (Refused 11))
@@ -77,7 +78,7 @@ write_no_space says shape x k y j s off bytes i leads reads file some most few l
     whole : (a : Answered) × (write_file s off bytes i (file_bytes shape x.words i) ≡ with_size s (length (file_bytes shape x.words i)) (off + length bytes) a)
     whole = some_bytes s off bytes i (file_bytes shape x.words i) some
 
-    is : write_in s off bytes i ≡ refused s 11
+    is : write_in s off bytes i ≡ refused s NoSpace
     is = written_in s off bytes i _ (file_read shape x.words s i reads file) ∙ whole.1 ∙ no_space shape x.words s _ (off + length bytes) whole.0 reads most few
 
 no_bytes : (bytes : List ℕ) → take 0 bytes ≡ []

@@ -1,5 +1,5 @@
 -- Bytes written and files resized change no name, and take no node away.
-use Rattle.request_ends.proofs.Common.{ℕ, ◌+◌, Bool, true, false, cond, List, [], ◌∷◌, length, refl, sym, subst, inl, inr, Result, Ok, Err, get, nat_lt, Node, File, Region, State, Answered, answered, at_inode, refused, with_node, with_room, largest_size, free_count, names_of, walk, Number}
+use Rattle.request_ends.proofs.Common.{ℕ, ◌+◌, Bool, true, false, cond, List, [], ◌∷◌, length, refl, sym, subst, inl, inr, Result, Ok, Err, get, nat_lt, Node, File, Region, State, Answered, answered, at_inode, with_node, with_room, largest_size, free_count, names_of, walk, Number, refused_by}
 use Rattle.rio_requests.specs.Parts.{WriteDone}
 use Rattle.rio_requests.specs.Answer.{on_file}
 use Rattle.std.specs.Prelude.{Option, Some, None}
@@ -16,7 +16,7 @@ itself s = use_same s s refl
 with_same : (s : State) (i : ℕ) (n : Node) → SameUse s (with_node s i n)
 with_same s i n = record { names = refl; nodes = stay_with s i n }
 
-cond_same : (s : State) (b : Bool) (c : ℕ) (a : Answered) → SameUse s a.next → SameUse s (cond b (refused s c) a).next
+cond_same : (s : State) (b : Bool) (c : ℕ) (a : Answered) → SameUse s a.next → SameUse s (cond b (refused_by s c) a).next
 cond_same s true c a h = itself s
 cond_same s false c a h = h
 

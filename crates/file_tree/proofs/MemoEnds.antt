@@ -2,6 +2,7 @@
 use Rattle.request_ends.proofs.Common.{◌≡◌, ℕ, Bool, true, false, cond, List, refl, sym, ap, ◌∙◌, Result, Ok, Err, Some, IsErrOf, nat_lt, true_false, get, VolumeShape, BlockWords, Seen, Kept, Node, State, Answered, Reply, answered, refused, with_room, with_new, make_new, ReadsAs, reads_agree, free_count, Number}
 use Rattle.std.specs.Prelude.{is_err}
 use Rattle.rio_requests.specs.declared.reply.Reply.TheVariants.{Err as RefusedBy}
+use Rattle.rio_model.specs.declared.refusal.Refusal.TheVariants.{NoSpace}
 use Rattle.request_ends.specs.Ends.{FileEnds}
 use Rattle.file_tree.specs.Memos.{InStep, StayThere}
 use Rattle.request_ends.specs.declared.failures.FileFail.{FileFail}
@@ -60,7 +61,7 @@ was_done {T = T} says shape x k y j s a leads r ok ends = done_as T says shape x
 number_refused : (i c : ℕ) (reply : Reply) → reply ≡ Number i → Some (RefusedBy c) ≡ Some reply → ⊥
 number_refused i c reply is e = cc
 
-room_by : (s : State) (a : Answered) (reply : Reply) (b : Bool) → (cond b (refused s 11) a).reply ≡ Some reply → (Some (RefusedBy 11) ≡ Some reply → ⊥) → (cond b (refused s 11) a).next ≡ a.next
+room_by : (s : State) (a : Answered) (reply : Reply) (b : Bool) → (cond b (refused s NoSpace) a).reply ≡ Some reply → (Some (RefusedBy 11) ≡ Some reply → ⊥) → (cond b (refused s NoSpace) a).next ≡ a.next
 room_by s a reply true told other = absurd (other told)
 room_by s a reply false told other = refl
 

@@ -1,5 +1,5 @@
 -- Room for a row: blocks that are free, as the state counts them, and what a request answers that finds too few.
-use Rattle.request_ends.proofs.Common.{◌≡◌, ℕ, ◌+◌, ◌-◌, ◌*◌, ◌%◌, ◌<◌, ◌≤◌, true, false, cond, sym, ap, subst, ◌∙◌, arith, nat_lt, nat_tests, VolumeShape, free_blocks, BlockWords, IsIno, true_false, Answered, State, refused, names_in, Held, held_of, held_ino, is_dir, placed_at, volume_layout, blocks_for, free_count, largest_size, reads_dir, ReadsAs, IsMapped, free_by_state, wanted_blocks, row_wanted, with_room, Result, Err, IsErrOf, SizeFail, NoSpace, TooLarge, refl}
+use Rattle.request_ends.proofs.Common.{◌≡◌, ℕ, ◌+◌, ◌-◌, ◌*◌, ◌%◌, ◌<◌, ◌≤◌, true, false, cond, sym, ap, subst, ◌∙◌, arith, nat_lt, nat_tests, VolumeShape, free_blocks, BlockWords, IsIno, true_false, Answered, State, names_in, Held, held_of, held_ino, is_dir, placed_at, volume_layout, blocks_for, free_count, largest_size, reads_dir, ReadsAs, IsMapped, free_by_state, wanted_blocks, row_wanted, with_room, Result, Err, IsErrOf, SizeFail, NoSpace, TooLarge, refl, refused_by}
 use Rattle.std.specs.Prelude.{length}
 use Rattle.rio_model.proofs.FreeByState.{names_counted}
 use Rattle.file_tree.proofs.ReadTrees.{ino_of, names_few}
@@ -47,10 +47,10 @@ below : (a b : ℕ) → a < b → nat_lt a b ≡ true
 below a b less = grind (arith, nat_tests, less)
 
 pub row_room : (shape : VolumeShape) (f : BlockWords) (s : State) (d : ℕ) (a : Answered) → ReadsAs shape f s → (held_of shape f d).kind ≡ 1 → wanted_blocks (held_of shape f d).size ((held_of shape f d).size + 64) ≤ length (free_blocks shape f) → with_room s (row_wanted s d) a ≡ a
-row_room shape f s d a reads dir enough = ap (λ b. cond b (refused s 11) a) (not_below (free_count s) (row_wanted s d) (subst (λ n. n ≤ free_count s) (sym (row_takes shape f s d reads dir)) (subst (λ n. wanted_blocks (held_of shape f d).size ((held_of shape f d).size + 64) ≤ n) (free_by_state shape f s reads) enough)))
+row_room shape f s d a reads dir enough = ap (λ b. cond b (refused_by s 11) a) (not_below (free_count s) (row_wanted s d) (subst (λ n. n ≤ free_count s) (sym (row_takes shape f s d reads dir)) (subst (λ n. wanted_blocks (held_of shape f d).size ((held_of shape f d).size + 64) ≤ n) (free_by_state shape f s reads) enough)))
 
-row_full : (shape : VolumeShape) (f : BlockWords) (s : State) (d : ℕ) (a : Answered) → ReadsAs shape f s → (held_of shape f d).kind ≡ 1 → length (free_blocks shape f) < wanted_blocks (held_of shape f d).size ((held_of shape f d).size + 64) → with_room s (row_wanted s d) a ≡ refused s 11
-row_full shape f s d a reads dir lacks = ap (λ b. cond b (refused s 11) a) (below (free_count s) (row_wanted s d) (subst (λ n. free_count s < n) (sym (row_takes shape f s d reads dir)) (subst (λ n. n < wanted_blocks (held_of shape f d).size ((held_of shape f d).size + 64)) (free_by_state shape f s reads) lacks)))
+row_full : (shape : VolumeShape) (f : BlockWords) (s : State) (d : ℕ) (a : Answered) → ReadsAs shape f s → (held_of shape f d).kind ≡ 1 → length (free_blocks shape f) < wanted_blocks (held_of shape f d).size ((held_of shape f d).size + 64) → with_room s (row_wanted s d) a ≡ refused_by s 11
+row_full shape f s d a reads dir lacks = ap (λ b. cond b (refused_by s 11) a) (below (free_count s) (row_wanted s d) (subst (λ n. free_count s < n) (sym (row_takes shape f s d reads dir)) (subst (λ n. n < wanted_blocks (held_of shape f d).size ((held_of shape f d).size + 64)) (free_by_state shape f s reads) lacks)))
 
 -- no row more could be planned: 11 where fewer blocks are free than it takes
 pub fails_add : {T : Type 0} (shape : VolumeShape) (f : BlockWords) (s : State) (d : ℕ) (b : Answered) (r : Result T SizeFail) (e : SizeFail) → r ≡ Err e → ReadsAs shape f s → (held_of shape f d).kind ≡ 1 → (IsErrOf r NoSpace → length (free_blocks shape f) < wanted_blocks (held_of shape f d).size ((held_of shape f d).size + 64)) → (IsErrOf r TooLarge → ⊥) → FailsBy s (with_room s (row_wanted s d) b) (fail_of_size e)

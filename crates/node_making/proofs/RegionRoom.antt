@@ -1,5 +1,5 @@
 -- Room for a region and its row: blocks that are free, as the state counts them.
-use Rattle.request_ends.proofs.Common.{◌≡◌, ℕ, ◌+◌, ◌*◌, ◌<◌, ◌≤◌, true, false, cond, List, refl, sym, ap, subst, ◌∙◌, arith, Result, Err, IsErrOf, Some, nat_lt, slice_index, nat_tests, VolumeShape, free_blocks, BlockWords, Seen, Kept, numbers, Region, State, with_new, Held, held_of, IsFree, placed_at, volume_layout, blocks_for, free_count, reads_agree, ReadsAs, LeavesInUse, Ready, free_by_state, wanted_blocks, ready_left, SizeFail, NoSpace, TooLarge, as_many, Answered, Number, answered, refused, make_new, row_wanted, with_room}
+use Rattle.request_ends.proofs.Common.{◌≡◌, ℕ, ◌+◌, ◌*◌, ◌<◌, ◌≤◌, true, false, cond, List, refl, sym, ap, subst, ◌∙◌, arith, Result, Err, IsErrOf, Some, nat_lt, slice_index, nat_tests, VolumeShape, free_blocks, BlockWords, Seen, Kept, numbers, Region, State, with_new, Held, held_of, IsFree, placed_at, volume_layout, blocks_for, free_count, reads_agree, ReadsAs, LeavesInUse, Ready, free_by_state, wanted_blocks, ready_left, SizeFail, NoSpace, TooLarge, as_many, Answered, Number, answered, make_new, row_wanted, with_room, refused_by}
 use Rattle.directories.specs.Plans.{PlansDir}
 use Rattle.directories.specs.declared.changes.DirChange.{DirChange}
 use Rattle.rio_requests.specs.Answers.{new_region}
@@ -39,10 +39,10 @@ below : (a b : ℕ) → a < b → nat_lt a b ≡ true
 below a b less = grind (arith, nat_tests, less)
 
 room : (s : State) (wants : ℕ) (a : Answered) → wants ≤ free_count s → with_room s wants a ≡ a
-room s wants a enough = ap (λ b. cond b (refused s 11) a) (not_below (free_count s) wants enough)
+room s wants a enough = ap (λ b. cond b (refused_by s 11) a) (not_below (free_count s) wants enough)
 
-no_room : (s : State) (wants : ℕ) (a : Answered) → free_count s < wants → with_room s wants a ≡ refused s 11
-no_room s wants a lacks = ap (λ b. cond b (refused s 11) a) (below (free_count s) wants lacks)
+no_room : (s : State) (wants : ℕ) (a : Answered) → free_count s < wants → with_room s wants a ≡ refused_by s 11
+no_room s wants a lacks = ap (λ b. cond b (refused_by s 11) a) (below (free_count s) wants lacks)
 
 -- ---- the row that is prepared: it takes as many blocks as the state says, and all of them are free
 

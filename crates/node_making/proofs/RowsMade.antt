@@ -2,6 +2,7 @@
 use Rattle.request_ends.proofs.Common.{◌≡◌, ℕ, ◌*◌, ◌<◌, ◌≤◌, true, false, cond, List, [], ◌∷◌, refl, sym, ap, subst, ◌∙◌, arith, inl, inr, Result, Ok, Err, None, Some, nat_lt, get, nat_tests, Ino, Node, Region, State, front_of, last_of, walk_to_dir, largest_size, Answered, at_inode, refused, make_new}
 use Rattle.rio_model.specs.Undo.{region_words}
 use Rattle.rio_model.specs.States.{least_free}
+use Rattle.rio_model.specs.declared.refusal.Refusal.TheVariants.{Exists, TooLarge}
 use Rattle.std.specs.Prelude.{Option, length}
 use Rattle.rio_requests.specs.Answers.{make, make_row, region_at, region_row, at_row, new_region}
 use Rattle.node_making.specs.NewNodes.{FitRegion}
@@ -14,7 +15,7 @@ use Rattle.request_ends.proofs.AnsweredAt.{FailsBy}
 -- ---- a request that makes a row
 
 -- it fails so
-pub fails_free : (s : State) (names front : List (List ℕ)) (name : List ℕ) (go : ℕ → List ℕ → Option ℕ → Answered) (r : Result Ino FileFail) (e : FileFail) → front_of names ≡ front → last_of names ≡ name → ((dir : ℕ) (n : List ℕ) (i : ℕ) → go dir n (Some i) ≡ refused s 3) → r ≡ Err e → FreeRow s front name r → FailsBy s (at_row s names (λ dir. go dir (last_of names) (get s.names (dir, last_of names)))) e
+pub fails_free : (s : State) (names front : List (List ℕ)) (name : List ℕ) (go : ℕ → List ℕ → Option ℕ → Answered) (r : Result Ino FileFail) (e : FileFail) → front_of names ≡ front → last_of names ≡ name → ((dir : ℕ) (n : List ℕ) (i : ℕ) → go dir n (Some i) ≡ refused s Exists) → r ≡ Err e → FreeRow s front name r → FailsBy s (at_row s names (λ dir. go dir (last_of names) (get s.names (dir, last_of names)))) e
 fails_free s names front name go r e cut last over re h = by e (subst (λ (v : Result Ino FileFail). FreeRow s front name v) re h)
   where
     at : Result ℕ ℕ → Answered
@@ -62,10 +63,10 @@ pub fails_region : (s : State) (names front : List (List ℕ)) (name : List ℕ)
 fails_region s names front name pages undo r e some cut last re h = subst (λ a. FailsBy s a e) (sym (region_last s names pages undo some)) (fails_free s names front name (regions_at s pages undo) r e cut last (λ dir n i. refl) re h)
 
 -- 10 where no node can have so many bytes
-pub region_large : (s : State) (names front : List (List ℕ)) (name : List ℕ) (pages undo : ℕ) (dir : Ino) → 0 < length names → front_of names ≡ front → last_of names ≡ name → FreeRow s front name (Ok dir) → largest_size < 8 * region_words undo pages → region_at s names pages undo ≡ refused s 10
+pub region_large : (s : State) (names front : List (List ℕ)) (name : List ℕ) (pages undo : ℕ) (dir : Ino) → 0 < length names → front_of names ≡ front → last_of names ≡ name → FreeRow s front name (Ok dir) → largest_size < 8 * region_words undo pages → region_at s names pages undo ≡ refused s TooLarge
 region_large s names front name pages undo dir some cut last h large =
     region_last s names pages undo some ∙ free_at s names front name (regions_at s pages undo) dir cut last h
-    ∙ ap (λ b. cond b (refused s 10) (make_new s dir.0 name (Region (new_region pages undo)) (least_free s))) (above _ large)
+    ∙ ap (λ b. cond b (refused s TooLarge) (make_new s dir.0 name (Region (new_region pages undo)) (least_free s))) (above _ large)
   where
     above : (n : ℕ) → largest_size < n → nat_lt largest_size n ≡ true
     above n more = grind (arith, nat_tests, more)
@@ -73,7 +74,7 @@ region_large s names front name pages undo dir some cut last h large =
 pub region_new : (s : State) (names front : List (List ℕ)) (name : List ℕ) (pages undo : ℕ) (dir : Ino) (r : RegionSizes) → 0 < length names → front_of names ≡ front → last_of names ≡ name → FreeRow s front name (Ok dir) → (r.undo_pages ≡ undo) × (r.data_pages ≡ pages) × FitRegion r → region_at s names pages undo ≡ make_new s dir.0 name (Region (new_region r.data_pages r.undo_pages)) (least_free s)
 region_new s names front name pages undo dir r some cut last h (u, p, fit) =
     region_last s names pages undo some ∙ free_at s names front name (regions_at s pages undo) dir cut last h
-    ∙ ap (λ b. cond b (refused s 10) (make_new s dir.0 name (Region (new_region pages undo)) (least_free s))) (within _ (subst (λ n. n ≤ largest_size) (fit.bytes ∙ ap (λ n. 8 * region_words n r.data_pages) u ∙ ap (λ n. 8 * region_words undo n) p) fit.most))
+    ∙ ap (λ b. cond b (refused s TooLarge) (make_new s dir.0 name (Region (new_region pages undo)) (least_free s))) (within _ (subst (λ n. n ≤ largest_size) (fit.bytes ∙ ap (λ n. 8 * region_words n r.data_pages) u ∙ ap (λ n. 8 * region_words undo n) p) fit.most))
     ∙ sym (ap (λ n. make_new s dir.0 name (Region (new_region n r.undo_pages)) (least_free s)) p ∙ ap (λ n. make_new s dir.0 name (Region (new_region pages n)) (least_free s)) u)
   where
     within : (n : ℕ) → n ≤ largest_size → nat_lt largest_size n ≡ false

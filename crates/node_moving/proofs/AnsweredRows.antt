@@ -3,6 +3,7 @@ use Rattle.request_ends.proofs.Common.{◌≡◌, ◌≢◌, ℕ, ◌<◌, true,
 use Rattle.std.specs.Prelude.{length, not}
 use Rattle.rio_requests.specs.declared.reply.Reply.TheVariants.{Ok as Done}
 use Rattle.rio_requests.specs.Answers.{is_empty, rmdir_at, rmdir_node, unlink_at, unlink_node, at_row, is_open, without}
+use Rattle.rio_model.specs.declared.refusal.Refusal.TheVariants.{NotADirectory, IsADirectory, NotEmpty, Busy}
 use Rattle.file_tree.specs.Walks.{RowComes}
 use Rattle.request_ends.specs.declared.failures.FileFail.{FileFail}
 use Rattle.request_ends.specs.declared.failures.FileFail.TheVariants.{Refused, Fault, Stopped, Memory}
@@ -41,14 +42,14 @@ fails_unlink s busy names r e some re h = subst (λ (a : Answered). FailsBy s a 
 pub unlinked_at : (s : State) (busy : List ℕ) (names : List (List ℕ)) (row : Row) → 0 < length names → RowComes s names (Ok row) → unlink_at s busy names ≡ unlink_node s busy row.dir.0 (last_of names) row.ino.0
 unlinked_at s busy names row some h = unlinked_last s busy names some ∙ row_taken s names (λ dir. unlink_node s busy dir (last_of names)) row.dir.0 row.ino.0 h.0 h.1
 
-pub unlinked_dir : (s : State) (busy : List ℕ) (dir : ℕ) (name : List ℕ) (i : ℕ) → is_dir (get s.nodes i) ≡ true → unlink_node s busy dir name i ≡ refused s 5
-unlinked_dir s busy dir name i is = ap (λ b. cond b (refused s 5) (cond (is_open busy i (get s.nodes i)) (refused s 13) (answered (without s dir name i) Done))) is
+pub unlinked_dir : (s : State) (busy : List ℕ) (dir : ℕ) (name : List ℕ) (i : ℕ) → is_dir (get s.nodes i) ≡ true → unlink_node s busy dir name i ≡ refused s IsADirectory
+unlinked_dir s busy dir name i is = ap (λ b. cond b (refused s IsADirectory) (cond (is_open busy i (get s.nodes i)) (refused s Busy) (answered (without s dir name i) Done))) is
 
-pub unlinked_open : (s : State) (busy : List ℕ) (dir : ℕ) (name : List ℕ) (i : ℕ) → is_dir (get s.nodes i) ≡ false → is_open busy i (get s.nodes i) ≡ true → unlink_node s busy dir name i ≡ refused s 13
-unlinked_open s busy dir name i leaf is = ap (λ b. cond b (refused s 5) (cond (is_open busy i (get s.nodes i)) (refused s 13) (answered (without s dir name i) Done))) leaf ∙ ap (λ b. cond b (refused s 13) (answered (without s dir name i) Done)) is
+pub unlinked_open : (s : State) (busy : List ℕ) (dir : ℕ) (name : List ℕ) (i : ℕ) → is_dir (get s.nodes i) ≡ false → is_open busy i (get s.nodes i) ≡ true → unlink_node s busy dir name i ≡ refused s Busy
+unlinked_open s busy dir name i leaf is = ap (λ b. cond b (refused s IsADirectory) (cond (is_open busy i (get s.nodes i)) (refused s Busy) (answered (without s dir name i) Done))) leaf ∙ ap (λ b. cond b (refused s Busy) (answered (without s dir name i) Done)) is
 
 pub unlinked_leaf : (s : State) (busy : List ℕ) (dir : ℕ) (name : List ℕ) (i : ℕ) → is_dir (get s.nodes i) ≡ false → is_open busy i (get s.nodes i) ≡ false → unlink_node s busy dir name i ≡ answered (without s dir name i) Done
-unlinked_leaf s busy dir name i leaf is = ap (λ b. cond b (refused s 5) (cond (is_open busy i (get s.nodes i)) (refused s 13) (answered (without s dir name i) Done))) leaf ∙ ap (λ b. cond b (refused s 13) (answered (without s dir name i) Done)) is
+unlinked_leaf s busy dir name i leaf is = ap (λ b. cond b (refused s IsADirectory) (cond (is_open busy i (get s.nodes i)) (refused s Busy) (answered (without s dir name i) Done))) leaf ∙ ap (λ b. cond b (refused s Busy) (answered (without s dir name i) Done)) is
 
 -- ---- a directory removed
 
@@ -62,14 +63,14 @@ fails_rmdir s names r e some re h = subst (λ (a : Answered). FailsBy s a e) (sy
 pub rmdir_taken : (s : State) (names : List (List ℕ)) (row : Row) → 0 < length names → RowComes s names (Ok row) → rmdir_at s names ≡ rmdir_node s row.dir.0 (last_of names) row.ino.0
 rmdir_taken s names row some h = rmdir_last s names some ∙ row_taken s names (λ dir. rmdir_node s dir (last_of names)) row.dir.0 row.ino.0 h.0 h.1
 
-pub rmdir_leaf : (s : State) (dir : ℕ) (name : List ℕ) (i : ℕ) → is_dir (get s.nodes i) ≡ false → rmdir_node s dir name i ≡ refused s 4
-rmdir_leaf s dir name i is = ap (λ b. cond (not b) (refused s 4) (cond (is_empty (names_in s i)) (answered (without s dir name i) Done) (refused s 6))) is
+pub rmdir_leaf : (s : State) (dir : ℕ) (name : List ℕ) (i : ℕ) → is_dir (get s.nodes i) ≡ false → rmdir_node s dir name i ≡ refused s NotADirectory
+rmdir_leaf s dir name i is = ap (λ b. cond (not b) (refused s NotADirectory) (cond (is_empty (names_in s i)) (answered (without s dir name i) Done) (refused s NotEmpty))) is
 
-pub rmdir_full : (s : State) (dir : ℕ) (name : List ℕ) (i : ℕ) → is_dir (get s.nodes i) ≡ true → is_empty (names_in s i) ≡ false → rmdir_node s dir name i ≡ refused s 6
-rmdir_full s dir name i is full = ap (λ b. cond (not b) (refused s 4) (cond (is_empty (names_in s i)) (answered (without s dir name i) Done) (refused s 6))) is ∙ ap (λ b. cond b (answered (without s dir name i) Done) (refused s 6)) full
+pub rmdir_full : (s : State) (dir : ℕ) (name : List ℕ) (i : ℕ) → is_dir (get s.nodes i) ≡ true → is_empty (names_in s i) ≡ false → rmdir_node s dir name i ≡ refused s NotEmpty
+rmdir_full s dir name i is full = ap (λ b. cond (not b) (refused s NotADirectory) (cond (is_empty (names_in s i)) (answered (without s dir name i) Done) (refused s NotEmpty))) is ∙ ap (λ b. cond b (answered (without s dir name i) Done) (refused s NotEmpty)) full
 
 pub rmdir_bare : (s : State) (dir : ℕ) (name : List ℕ) (i : ℕ) → is_dir (get s.nodes i) ≡ true → is_empty (names_in s i) ≡ true → rmdir_node s dir name i ≡ answered (without s dir name i) Done
-rmdir_bare s dir name i is bare = ap (λ b. cond (not b) (refused s 4) (cond (is_empty (names_in s i)) (answered (without s dir name i) Done) (refused s 6))) is ∙ ap (λ b. cond b (answered (without s dir name i) Done) (refused s 6)) bare
+rmdir_bare s dir name i is bare = ap (λ b. cond (not b) (refused s NotADirectory) (cond (is_empty (names_in s i)) (answered (without s dir name i) Done) (refused s NotEmpty))) is ∙ ap (λ b. cond b (answered (without s dir name i) Done) (refused s NotEmpty)) bare
 
 empty_if : (names : List (List ℕ)) → length names ≡ 0 → is_empty names ≡ true
 empty_if [] e = refl

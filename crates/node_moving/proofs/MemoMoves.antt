@@ -3,6 +3,7 @@ use Rattle.request_ends.proofs.Common.{◌≡◌, ◌≢◌, ℕ, ◌==◌, Bool
 use Rattle.std.proofs.Common.{◌||◌}
 use Rattle.rio_requests.specs.declared.reply.Reply.TheVariants.{Ok as Done, Err as RefusedBy}
 use Rattle.rio_requests.specs.Answers.{move_row, replace_row, moved, replaced, is_open, without}
+use Rattle.rio_model.specs.declared.refusal.Refusal.TheVariants.{Exists, Busy}
 use Rattle.file_tree.proofs.MemoEnds.{room_next}
 use Rattle.file_tree.specs.Memos.{StayBut}
 use Rattle.node_moving.proofs.NameMoves.{gone_there}
@@ -15,7 +16,7 @@ move_next s dir name to_dir to i reply told said = room_next s _ (answered (move
 
 -- over a row of another node, the two being no directories and the other one no open region
 abbrev over : State → State → Bool → Bool → Bool → Answered
-over s t same dirs busy = cond same (answered s Done) (cond dirs (refused s 3) (cond busy (refused s 13) (answered t Done)))
+over s t same dirs busy = cond same (answered s Done) (cond dirs (refused s Exists) (cond busy (refused s Busy) (answered t Done)))
 
 over_next : (s t : State) (reply : Reply) (dirs busy : Bool) → (over s t false dirs busy).reply ≡ Some reply → reply ≡ Done → (over s t false dirs busy).next ≡ t
 over_next s t reply true busy told said = absurd (done_refused 3 reply said told)

@@ -1,9 +1,10 @@
 -- What a request that moves a name answers, by what its calls found.
-use Rattle.request_ends.proofs.Common.{◌≡◌, ◌≢◌, ◌==◌, ◌&&◌, ◌⊎◌, ℕ, ◌<◌, Bool, true, false, cond, List, [], ◌∷◌, refl, sym, ap, subst, ◌∙◌, arith, inl, inr, Result, Ok, Err, get, Decides-eqb, Ino, VolumeShape, BlockWords, Seen, Kept, Answered, Reply, State, answered, at_inode, refused, front_of, last_of, held_of, is_dir, walk, walk_to_dir, volume_layout, ReadsAs, LeavesInUse, TreeRule, differs, IsInode, Inode, is_below}
+use Rattle.request_ends.proofs.Common.{◌≡◌, ◌≢◌, ◌==◌, ◌&&◌, ◌⊎◌, ℕ, ◌<◌, Bool, true, false, cond, List, [], ◌∷◌, refl, sym, ap, subst, ◌∙◌, arith, inl, inr, Result, Ok, Err, get, Decides-eqb, Ino, VolumeShape, BlockWords, Seen, Kept, Answered, Reply, State, answered, at_inode, refused, front_of, last_of, held_of, is_dir, walk, walk_to_dir, volume_layout, ReadsAs, LeavesInUse, TreeRule, differs, IsInode, Inode, is_below, refused_by}
 use Rattle.std.proofs.Common.{◌||◌}
 use Rattle.std.specs.Prelude.{length}
 use Rattle.rio_requests.specs.declared.reply.Reply.TheVariants.{Ok as Done}
 use Rattle.rio_requests.specs.Answers.{is_among, rename_at, rename_row, rename_to, replace_row, at_row, is_open, replaced}
+use Rattle.rio_model.specs.declared.refusal.Refusal.TheVariants.{Exists, IsRoot, Busy, InsideItself}
 use Rattle.request_ends.specs.Ends.{FileEnds}
 use Rattle.node_moving.specs.WalkRules.{OutOfReach}
 use Rattle.node_moving.proofs.WalkRules.{out_of_reach, path_row, walk_last, walk_last_err}
@@ -18,7 +19,7 @@ use Rattle.file_tree.proofs.LookedAt.{fails_walk, dir_read, inode_kind_held, lea
 -- ---- a row over another one
 
 abbrev replace_by : State → State → Bool → Bool → Bool → Answered
-replace_by s t same dir busy = cond same (answered s Done) (cond dir (refused s 3) (cond busy (refused s 13) (answered t Done)))
+replace_by s t same dir busy = cond same (answered s Done) (cond dir (refused s Exists) (cond busy (refused s Busy) (answered t Done)))
 
 -- its three tests
 replace_tests : (s : State) (busy : List ℕ) (d : ℕ) (a : List ℕ) (e : ℕ) (b : List ℕ) (i j : ℕ) (same dir taken : Bool) → (i == j) ≡ same → (is_dir (get s.nodes i) || is_dir (get s.nodes j)) ≡ dir → is_open busy j (get s.nodes j) ≡ taken → replace_row s busy d a e b i j ≡ replace_by s (replaced s d a e b i j) same dir taken
@@ -58,10 +59,10 @@ no_dir shape f s from to moved gone reads h leaf leaf_to =
     ap (λ t. t || is_dir (get s.nodes to.ino.0)) (leaf_read shape f s from.ino.0 reads (λ dir. leaf (moved_kind shape f from to moved gone h ∙ dir)))
     ∙ leaf_read shape f s to.ino.0 reads (λ dir. leaf_to (gone_kind shape f from to moved gone h ∙ dir))
 
-pub replace_dir : (shape : VolumeShape) (f : BlockWords) (s : State) (busy : List ℕ) (from : Row) (a : List ℕ) (to : Row) (b : List ℕ) (moved gone : Inode) → ReadsAs shape f s → InodesRead shape f from to moved gone → from.ino.0 ≢ to.ino.0 → (moved.kind ≡ 1) ⊎ (gone.kind ≡ 1) → replace_row s busy from.dir.0 a to.dir.0 b from.ino.0 to.ino.0 ≡ refused s 3
+pub replace_dir : (shape : VolumeShape) (f : BlockWords) (s : State) (busy : List ℕ) (from : Row) (a : List ℕ) (to : Row) (b : List ℕ) (moved gone : Inode) → ReadsAs shape f s → InodesRead shape f from to moved gone → from.ino.0 ≢ to.ino.0 → (moved.kind ≡ 1) ⊎ (gone.kind ≡ 1) → replace_row s busy from.dir.0 a to.dir.0 b from.ino.0 to.ino.0 ≡ refused s Exists
 replace_dir shape f s busy from a to b moved gone reads h other dir = replace_tests s busy from.dir.0 a to.dir.0 b from.ino.0 to.ino.0 false true (is_open busy to.ino.0 (get s.nodes to.ino.0)) (differs from.ino.0 to.ino.0 other) (one_dir shape f s from to moved gone reads h dir) refl
 
-pub replace_busy : (shape : VolumeShape) (f : BlockWords) (s : State) (busy : List ℕ) (from : Row) (a : List ℕ) (to : Row) (b : List ℕ) (moved gone : Inode) → ReadsAs shape f s → InodesRead shape f from to moved gone → from.ino.0 ≢ to.ino.0 → moved.kind ≢ 1 → gone.kind ≢ 1 → ((gone.kind == 3) && is_among busy to.ino.0) ≡ true → replace_row s busy from.dir.0 a to.dir.0 b from.ino.0 to.ino.0 ≡ refused s 13
+pub replace_busy : (shape : VolumeShape) (f : BlockWords) (s : State) (busy : List ℕ) (from : Row) (a : List ℕ) (to : Row) (b : List ℕ) (moved gone : Inode) → ReadsAs shape f s → InodesRead shape f from to moved gone → from.ino.0 ≢ to.ino.0 → moved.kind ≢ 1 → gone.kind ≢ 1 → ((gone.kind == 3) && is_among busy to.ino.0) ≡ true → replace_row s busy from.dir.0 a to.dir.0 b from.ino.0 to.ino.0 ≡ refused s Busy
 replace_busy shape f s busy from a to b moved gone reads h other leaf leaf_to taken = replace_tests s busy from.dir.0 a to.dir.0 b from.ino.0 to.ino.0 false false true (differs from.ino.0 to.ino.0 other) (no_dir shape f s from to moved gone reads h leaf leaf_to) (open_read shape f s busy to.ino.0 gone.kind reads h.used_to (gone_kind shape f from to moved gone h) ∙ taken)
 
 pub replace_done : (shape : VolumeShape) (f : BlockWords) (s : State) (busy : List ℕ) (from : Row) (a : List ℕ) (to : Row) (b : List ℕ) (moved gone : Inode) → ReadsAs shape f s → InodesRead shape f from to moved gone → from.ino.0 ≢ to.ino.0 → moved.kind ≢ 1 → gone.kind ≢ 1 → ((gone.kind == 3) && is_among busy to.ino.0) ≡ false → replace_row s busy from.dir.0 a to.dir.0 b from.ino.0 to.ino.0 ≡ answered (replaced s from.dir.0 a to.dir.0 b from.ino.0 to.ino.0) Done
@@ -71,7 +72,7 @@ replace_done shape f s busy from a to b moved gone reads h other leaf leaf_to sh
 
 -- of the walk to the old path
 abbrev after_from : State → List ℕ → List (List ℕ) → List (List ℕ) → ℕ → Answered
-after_from s busy p [] i = refused s 9
+after_from s busy p [] i = refused s IsRoot
 after_from s busy p (n ∷ ns) i = at_row s (n ∷ ns) (rename_to s busy p (n ∷ ns) i)
 
 rename_goes : (s : State) (busy : List ℕ) (p q : List (List ℕ)) → rename_at s busy p q ≡ at_inode s (walk s 1 p) (after_from s busy p q)
@@ -102,7 +103,7 @@ fails_row s a p i r e some at is h = row_as s a p i e some at (subst (λ (v : Re
 
 -- ---- refused, or ended by a later call
 
-pub ends_no : {T : Type 0} (says : T → Reply → Type 0) (shape : VolumeShape) (x : Seen) (k : Kept) (y : Seen) (j : Kept) (s : State) (a : Answered) (leads : ℕ → State → Type 0) (number : ℕ) → a ≡ refused s number → LeavesInUse (volume_layout shape x.words) x k y j → FileEnds {T = T} says shape x k y j s a leads (Err (Refused number))
+pub ends_no : {T : Type 0} (says : T → Reply → Type 0) (shape : VolumeShape) (x : Seen) (k : Kept) (y : Seen) (j : Kept) (s : State) (a : Answered) (leads : ℕ → State → Type 0) (number : ℕ) → a ≡ refused_by s number → LeavesInUse (volume_layout shape x.words) x k y j → FileEnds {T = T} says shape x k y j s a leads (Err (Refused number))
 ends_no says shape x k y j s a leads number is leaves = (ap (λ (b : Answered). b.reply) is, ap (λ (b : Answered). b.next) is, leaves)
 
 -- by a call that answers the same
@@ -111,8 +112,8 @@ ends_by_call says shape x k m l y j s a b leads r is leaves words h = ends_after
 
 -- ---- what is answered
 
-pub rename_new_root : (s : State) (busy : List ℕ) (p q : List (List ℕ)) (i : ℕ) → walk s 1 p ≡ Ok i → q ≡ [] → rename_at s busy p q ≡ refused s 9
-rename_new_root s busy p q i at root = ap (rename_at s busy p) root ∙ ap (λ (w : Result ℕ ℕ). at_inode s w (λ x. refused s 9)) at
+pub rename_new_root : (s : State) (busy : List ℕ) (p q : List (List ℕ)) (i : ℕ) → walk s 1 p ≡ Ok i → q ≡ [] → rename_at s busy p q ≡ refused s IsRoot
+rename_new_root s busy p q i at root = ap (rename_at s busy p) root ∙ ap (λ (w : Result ℕ ℕ). at_inode s w (λ x. refused s IsRoot)) at
 
 -- both walks come to something
 pub record Walked (s : State) (p q : List (List ℕ)) (i dir : ℕ) : Type 0 where
@@ -123,15 +124,15 @@ pub record Walked (s : State) (p q : List (List ℕ)) (i dir : ℕ) : Type 0 whe
 rename_walked : (s : State) (busy : List ℕ) (p q : List (List ℕ)) (i dir : ℕ) → Walked s p q i dir → rename_at s busy p q ≡ rename_to s busy p q i dir
 rename_walked s busy p q i dir w = rename_after s busy p q i w.from w.some ∙ ap (λ (v : Result ℕ ℕ). at_inode s v (rename_to s busy p q i)) w.to
 
-pub rename_old_root : (s : State) (busy : List ℕ) (p q : List (List ℕ)) (i dir : ℕ) → Walked s p q i dir → p ≡ [] → rename_at s busy p q ≡ refused s 9
+pub rename_old_root : (s : State) (busy : List ℕ) (p q : List (List ℕ)) (i dir : ℕ) → Walked s p q i dir → p ≡ [] → rename_at s busy p q ≡ refused s IsRoot
 rename_old_root s busy p q i dir w root = rename_walked s busy p q i dir w ∙ ap (λ ns. rename_to s busy ns q i dir) root
 
-pub rename_inside : (s : State) (busy : List ℕ) (p q : List (List ℕ)) (i dir : ℕ) → Walked s p q i dir → 0 < length p → is_below p q ≡ true → rename_at s busy p q ≡ refused s 21
+pub rename_inside : (s : State) (busy : List ℕ) (p q : List (List ℕ)) (i dir : ℕ) → Walked s p q i dir → 0 < length p → is_below p q ≡ true → rename_at s busy p q ≡ refused s InsideItself
 rename_inside s busy p q i dir w some below = rename_walked s busy p q i dir w ∙ by p some below
   where
-    by : (p : List (List ℕ)) → 0 < length p → is_below p q ≡ true → rename_to s busy p q i dir ≡ refused s 21
+    by : (p : List (List ℕ)) → 0 < length p → is_below p q ≡ true → rename_to s busy p q i dir ≡ refused s InsideItself
     by [] none b = absurd (omega (arith, none))
-    by (n ∷ ns) none b = ap (λ t. cond t (refused s 21) (at_row s (n ∷ ns) (λ d. rename_row s busy d (last_of (n ∷ ns)) dir (last_of q) i (get s.names (dir, last_of q))))) b
+    by (n ∷ ns) none b = ap (λ t. cond t (refused s InsideItself) (at_row s (n ∷ ns) (λ d. rename_row s busy d (last_of (n ∷ ns)) dir (last_of q) i (get s.names (dir, last_of q))))) b
 
 rename_beside : (s : State) (busy : List ℕ) (p q : List (List ℕ)) (i dir d : ℕ) → Walked s p q i dir → 0 < length p → is_below p q ≡ false → walk_to_dir s (front_of p) ≡ Ok d → rename_at s busy p q ≡ rename_row s busy d (last_of p) dir (last_of q) i (get s.names (dir, last_of q))
 rename_beside s busy p q i dir d w some below at = rename_walked s busy p q i dir w ∙ by p some below at
@@ -139,7 +140,7 @@ rename_beside s busy p q i dir d w some below at = rename_walked s busy p q i di
     by : (p : List (List ℕ)) → 0 < length p → is_below p q ≡ false → walk_to_dir s (front_of p) ≡ Ok d → rename_to s busy p q i dir ≡ rename_row s busy d (last_of p) dir (last_of q) i (get s.names (dir, last_of q))
     by [] none b to = absurd (omega (arith, none))
     by (n ∷ ns) none b to =
-        ap (λ t. cond t (refused s 21) (at_row s (n ∷ ns) (λ x. rename_row s busy x (last_of (n ∷ ns)) dir (last_of q) i (get s.names (dir, last_of q))))) b
+        ap (λ t. cond t (refused s InsideItself) (at_row s (n ∷ ns) (λ x. rename_row s busy x (last_of (n ∷ ns)) dir (last_of q) i (get s.names (dir, last_of q))))) b
         ∙ ap (λ (v : Result ℕ ℕ). at_inode s v (λ x. rename_row s busy x (last_of (n ∷ ns)) dir (last_of q) i (get s.names (dir, last_of q)))) to
 
 -- the row of the old path names the node that the walk came to

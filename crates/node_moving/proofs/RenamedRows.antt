@@ -1,6 +1,6 @@
 -- Rows that are given another name: what is answered, that the changes can be made, and the state that they come to. x and k
 -- are before the request, w and p, u and q, y and j after one call after the other that only prepares.
-use Rattle.request_ends.proofs.Common.{◌≡◌, ◌≢◌, ℕ, ◌+◌, ◌<◌, ◌≤◌, false, cond, List, [], ◌∷◌, refl, sym, ap, subst, ◌∙◌, arith, Result, Err, IsErrOf, nat_lt, nat_tests, Block, VolumeShape, free_blocks, BlockWords, Seen, IsIno, Kept, Settled, numbers, State, answered, refused, Held, held_of, IsName, placed_at, volume_layout, free_count, held_of_agree, ReadsAs, LeavesInUse, Ready, TreeRule, differs, wanted_blocks, node_blocks, leaves_trans, ready_left, reads_agree, SizeFail, NoSpace, TooLarge, row_wanted, with_room}
+use Rattle.request_ends.proofs.Common.{◌≡◌, ◌≢◌, ℕ, ◌+◌, ◌<◌, ◌≤◌, false, cond, List, [], ◌∷◌, refl, sym, ap, subst, ◌∙◌, arith, Result, Err, IsErrOf, nat_lt, nat_tests, Block, VolumeShape, free_blocks, BlockWords, Seen, IsIno, Kept, Settled, numbers, State, answered, Held, held_of, IsName, placed_at, volume_layout, free_count, held_of_agree, ReadsAs, LeavesInUse, Ready, TreeRule, differs, wanted_blocks, node_blocks, leaves_trans, ready_left, reads_agree, SizeFail, NoSpace, TooLarge, row_wanted, with_room, refused_by}
 use Rattle.directories.specs.Plans.{PlansDir}
 use Rattle.directories.specs.Rows.{HasRow, IsEntry}
 use Rattle.directories.specs.declared.changes.DirChange.{DirChange}
@@ -43,7 +43,7 @@ no_blocks n = grind (arith, nat_tests)
 move_within : (s : State) (d : ℕ) (a b : List ℕ) (i : ℕ) → move_row s d a d b i ≡ answered (moved s d a d b i) Done
 move_within s d a b i =
     ap (λ t. with_room s (cond t 0 (row_wanted s d)) (answered (moved s d a d b i) Done)) (itself d)
-    ∙ ap (λ t. cond t (refused s 11) (answered (moved s d a d b i) Done)) (no_blocks (free_count s))
+    ∙ ap (λ t. cond t (refused_by s 11) (answered (moved s d a d b i) Done)) (no_blocks (free_count s))
 
 move_two : (s : State) (d : ℕ) (a : List ℕ) (e : ℕ) (b : List ℕ) (i : ℕ) → d ≢ e → move_row s d a e b i ≡ with_room s (row_wanted s e) (answered (moved s d a e b i) Done)
 move_two s d a e b i two = ap (λ t. with_room s (cond t 0 (row_wanted s e)) (answered (moved s d a e b i) Done)) (differs d e two)

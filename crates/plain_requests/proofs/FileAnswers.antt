@@ -7,6 +7,7 @@ use Rattle.std.proofs.lemmas.List.{append-nil, length-append, length-replicate, 
 use Rattle.rio_requests.specs.Answer.{answered, refused}
 use Rattle.rio_requests.specs.Answers.{wanted, with_size, write_file}
 use Rattle.rio_model.specs.FileParts.{written}
+use Rattle.rio_model.specs.declared.refusal.Refusal.TheVariants.{TooLarge, NoSpace}
 use Rattle.rio_requests.specs.declared.answered.Answered.{Answered}
 use Rattle.rio_requests.specs.declared.reply.Reply.TheVariants.{Number}
 
@@ -18,17 +19,17 @@ large len h = grind (arith, nat_tests, h)
 small : (len : ℕ) → len ≤ largest_size → nat_lt largest_size len ≡ false
 small len h = grind (arith, nat_tests, h)
 
-pub too_large : (s : State) (size len : ℕ) (answer : Answered) → largest_size < len → refused s 10 ≡ with_size s size len answer
-too_large s size len answer h = sym (ap (λ b. cond b (refused s 10) (cond (nat_lt (free_count s) (wanted size len)) (refused s 11) answer)) (large len h))
+pub too_large : (s : State) (size len : ℕ) (answer : Answered) → largest_size < len → refused s TooLarge ≡ with_size s size len answer
+too_large s size len answer h = sym (ap (λ b. cond b (refused s TooLarge) (cond (nat_lt (free_count s) (wanted size len)) (refused s NoSpace) answer)) (large len h))
 
-by_room : (s : State) (size len : ℕ) (answer : Answered) → len ≤ largest_size → with_size s size len answer ≡ cond (nat_lt (free_count s) (wanted size len)) (refused s 11) answer
-by_room s size len answer h = ap (λ b. cond b (refused s 10) (cond (nat_lt (free_count s) (wanted size len)) (refused s 11) answer)) (small len h)
+by_room : (s : State) (size len : ℕ) (answer : Answered) → len ≤ largest_size → with_size s size len answer ≡ cond (nat_lt (free_count s) (wanted size len)) (refused s NoSpace) answer
+by_room s size len answer h = ap (λ b. cond b (refused s TooLarge) (cond (nat_lt (free_count s) (wanted size len)) (refused s NoSpace) answer)) (small len h)
 
-pub room_lacking : (s : State) (size len : ℕ) (answer : Answered) → len ≤ largest_size → nat_lt (free_count s) (wanted size len) ≡ true → refused s 11 ≡ with_size s size len answer
-room_lacking s size len answer h lacks = sym (by_room s size len answer h ∙ ap (λ b. cond b (refused s 11) answer) lacks)
+pub room_lacking : (s : State) (size len : ℕ) (answer : Answered) → len ≤ largest_size → nat_lt (free_count s) (wanted size len) ≡ true → refused s NoSpace ≡ with_size s size len answer
+room_lacking s size len answer h lacks = sym (by_room s size len answer h ∙ ap (λ b. cond b (refused s NoSpace) answer) lacks)
 
 pub room_there : (s : State) (size len : ℕ) (answer : Answered) → len ≤ largest_size → nat_lt (free_count s) (wanted size len) ≡ false → answer ≡ with_size s size len answer
-room_there s size len answer h there = sym (by_room s size len answer h ∙ ap (λ b. cond b (refused s 11) answer) there)
+room_there s size len answer h there = sym (by_room s size len answer h ∙ ap (λ b. cond b (refused s NoSpace) answer) there)
 
 -- ---- written bytes
 
@@ -107,10 +108,10 @@ len_large len b is holds = grind (arith, nat_tests, is, holds)
 pub len_small : (len : ℕ) (b : Bool) → b ≡ nat_lt largest_size len → b ≡ false → len ≤ largest_size
 len_small len b is fails = grind (arith, nat_tests, is, fails)
 
-pub write_large : (s : State) (off : ℕ) (bytes : List ℕ) (i : ℕ) (old : List ℕ) → 0 < length bytes → largest_size < off + length bytes → refused s 10 ≡ write_file s off bytes i old
+pub write_large : (s : State) (off : ℕ) (bytes : List ℕ) (i : ℕ) (old : List ℕ) → 0 < length bytes → largest_size < off + length bytes → refused s TooLarge ≡ write_file s off bytes i old
 write_large s off bytes i old some large = too_large s (length old) (off + length bytes) (answered (with_node s i (File (written old off bytes))) (Number (length bytes))) large ∙ some_written s off bytes i old some
 
-pub write_lacks : (s : State) (off : ℕ) (bytes : List ℕ) (i : ℕ) (old : List ℕ) (end wants : ℕ) (lacks : Bool) → 0 < length bytes → (end ≡ off + length bytes) × (off + length bytes ≤ largest_size) → wants ≡ wanted (length old) end → lacks ≡ nat_lt (free_count s) wants → lacks ≡ true → refused s 11 ≡ write_file s off bytes i old
+pub write_lacks : (s : State) (off : ℕ) (bytes : List ℕ) (i : ℕ) (old : List ℕ) (end wants : ℕ) (lacks : Bool) → 0 < length bytes → (end ≡ off + length bytes) × (off + length bytes ≤ largest_size) → wants ≡ wanted (length old) end → lacks ≡ nat_lt (free_count s) wants → lacks ≡ true → refused s NoSpace ≡ write_file s off bytes i old
 write_lacks s off bytes i old end wants lacks some fits is told holds =
     let t : nat_lt (free_count s) (wanted (length old) (off + length bytes)) ≡ true = sym (told ∙ ap (nat_lt (free_count s)) (is ∙ ap (wanted (length old)) fits.0)) ∙ holds in
     room_lacking s (length old) (off + length bytes) (answered (with_node s i (File (written old off bytes))) (Number (length bytes))) fits.1 t ∙ some_written s off bytes i old some

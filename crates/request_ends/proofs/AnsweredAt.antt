@@ -1,5 +1,5 @@
 -- How requests on files end, by how the calls do of which they are made.
-use Rattle.request_ends.proofs.Common.{◌≡◌, ℕ, refl, sym, ap, subst, ◌∙◌, Result, Ok, Err, VolumeShape, Seen, Kept, Settled, Answered, Reply, State, answered, refused, volume_layout, ReadsAs, LeavesInUse, Ready, VolFail}
+use Rattle.request_ends.proofs.Common.{◌≡◌, ℕ, refl, sym, ap, subst, ◌∙◌, Result, Ok, Err, VolumeShape, Seen, Kept, Settled, Answered, Reply, State, answered, volume_layout, ReadsAs, LeavesInUse, Ready, VolFail, refused_by}
 use Rattle.rio_base.specs.declared.failures.ReadFail.{ReadFail}
 use Rattle.rio_base.specs.declared.failures.ReadFail.TheVariants.{Fault as ReadFault, Stopped as ReadStopped, Memory as ReadMemory}
 use Rattle.request_ends.specs.Ends.{FileEnds, Left}
@@ -13,7 +13,7 @@ use Rattle.rio_base.specs.declared.failures.VolFail.TheVariants.{Fault as VolFau
 
 -- a failure of them: a refusal is what the request answers, and no byte is done at a fault
 abbrev pub FailsBy : State → Answered → FileFail → Type 0
-FailsBy s a (Refused c) = a ≡ refused s c
+FailsBy s a (Refused c) = a ≡ refused_by s c
 FailsBy s a (Fault n) = n ≡ 0
 FailsBy s a Stopped = Unit {0}
 FailsBy s a Memory = Unit {0}

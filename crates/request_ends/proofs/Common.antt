@@ -63,7 +63,7 @@ pub use Rattle.rio_model.specs.VolumeRules.{EntryRule, IsMapped, NamesApartRule,
 pub use Rattle.rio_model.specs.declared.node.Node.{Node}
 pub use Rattle.rio_model.specs.declared.node.Node.TheVariants.{File, Region}
 pub use Rattle.rio_model.specs.declared.state.State.{State}
-pub use Rattle.rio_requests.specs.Answer.{answered, at_inode, refused}
+pub use Rattle.rio_requests.specs.Answer.{answered, at_inode, refused, refused_by}
 pub use Rattle.rio_requests.specs.Answers.{found, is_below, make_new, row_wanted, with_room}
 pub use Rattle.rio_requests.specs.Parts.{NoneDone}
 pub use Rattle.rio_requests.specs.declared.answered.Answered.{Answered}

@@ -4,6 +4,8 @@ use Rattle.rio_base.specs.declared.failures.VolFail.{VolFail}
 use Rattle.rio_base.specs.declared.failures.VolFail.TheVariants.{Fault as DiskFault, Stopped as MachineStopped}
 use Rattle.rio_base.specs.declared.failures.ReadFail.{ReadFail}
 use Rattle.rio_base.specs.declared.failures.ReadFail.TheVariants.{Fault as ReadFault, Stopped as ReadStopped, Memory as ReadMemory}
+use Rattle.rio_model.specs.Refusals.{refusal_number}
+use Rattle.rio_model.specs.declared.refusal.Refusal.TheVariants.{TooLarge, NoSpace}
 use Rattle.node_pages.specs.declared.failures.WriteFail.{WriteFail}
 use Rattle.node_pages.specs.declared.failures.WriteFail.TheVariants.{NoSpace as WriteNoSpace, TooLarge as WriteTooLarge, Fault as WriteFault, Stopped as WriteStopped, Memory as WriteMemory}
 use Rattle.node_pages.specs.declared.failures.SizeFail.{SizeFail}
@@ -21,15 +23,15 @@ fail_of_read ReadStopped = Stopped
 fail_of_read ReadMemory = Memory
 
 abbrev pub fail_of_size : SizeFail → FileFail
-fail_of_size SizeNoSpace = Refused 11
-fail_of_size SizeTooLarge = Refused 10
+fail_of_size SizeNoSpace = Refused (refusal_number NoSpace)
+fail_of_size SizeTooLarge = Refused (refusal_number TooLarge)
 fail_of_size SizeFault = Fault 0
 fail_of_size SizeStopped = Stopped
 fail_of_size SizeMemory = Memory
 
 abbrev pub fail_of_write : WriteFail → FileFail
-fail_of_write WriteNoSpace = Refused 11
-fail_of_write WriteTooLarge = Refused 10
+fail_of_write WriteNoSpace = Refused (refusal_number NoSpace)
+fail_of_write WriteTooLarge = Refused (refusal_number TooLarge)
 fail_of_write (WriteFault done) = Fault done
 fail_of_write WriteStopped = Stopped
 fail_of_write WriteMemory = Memory

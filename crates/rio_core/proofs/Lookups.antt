@@ -12,8 +12,9 @@ use Rattle.rio_model.specs.States.{open_inodes}
 use Rattle.rio_model.specs.VolumeReads.{node_in}
 use Rattle.rio_model.proofs.VolumeReadRules.{reads_dir, reads_file, reads_none}
 use Rattle.rio_model.specs.VolumeRules.{KindRule}
+use Rattle.rio_model.specs.declared.refusal.Refusal.TheVariants.{NotARegion}
 use Rattle.rio_requests.specs.declared.reply.Reply.TheVariants.{Err as RefusedBy, Fault as Faulted}
-use Rattle.rio_requests.specs.Answer.{at_inode, refused}
+use Rattle.rio_requests.specs.Answer.{at_inode, refused, refused_by}
 use Rattle.rio_requests.specs.Transactions.{at_region, looked, on_region}
 use Rattle.rio_core.proofs.CallEnds.{CallEnds}
 use Rattle.rio_core.specs.Lines.{Within}
@@ -113,7 +114,7 @@ region_leads shape f marks s path i q held same leads is = let was = region_was 
 
 -- ---- it does not
 
-on_other : (s : State) (n : Option Node) (go : RegionNode → Answered) → n ≢ None → ((r : RegionNode) → n ≡ Some (Region r) → ⊥) → on_region s n go ≡ refused s 8
+on_other : (s : State) (n : Option Node) (go : RegionNode → Answered) → n ≢ None → ((r : RegionNode) → n ≡ Some (Region r) → ⊥) → on_region s n go ≡ refused s NotARegion
 on_other s None go some other = absurd (some refl)
 on_other s (Some Dir) go some other = refl
 on_other s (Some (File bytes)) go some other = refl
@@ -122,7 +123,7 @@ on_other s (Some (Region r)) go some other = absurd (other r refl)
 -- the walk is refused, or ends at another node
 pub region_missed : (shape : VolumeShape) (f : BlockWords) (marks : Marks) (s : State) (path : List ℕ) (c : ℕ) → ReadsHeld shape f marks s → walk (crashed s) 1 (names_of path) ≡ walk s 1 (names_of path)
     → (walk (crashed s) 1 (names_of path) ≡ Err c) ⊎ ((i : ℕ) × (walk (crashed s) 1 (names_of path) ≡ Ok i) × ((r : RegionNode) → get (crashed s).nodes i ≡ Some (Region r) → ⊥) × (c ≡ 8))
-    → (go : ℕ → RegionNode → Option Txn → Answered) → at_region s path go ≡ refused s c
+    → (go : ℕ → RegionNode → Option Txn → Answered) → at_region s path go ≡ refused_by s c
 region_missed shape f marks s path c held same (inl e) go = ap (λ w. at_inode s w (λ j. on_region s (get s.nodes j) (λ q. go j q (txn_at s.txns j)))) (sym same ∙ e)
 region_missed shape f marks s path c held same (inr x) go =
     ap (λ w. at_inode s w (λ j. on_region s (get s.nodes j) (λ q. go j q (txn_at s.txns j)))) (sym same ∙ x.1)
@@ -140,10 +141,10 @@ region_missed shape f marks s path c held same (inr x) go =
 
 -- ---- how a request ends whose region was not looked up
 
-at_path : (s : State) (path p : List ℕ) (c : ℕ) (go : ℕ → RegionNode → Option Txn → Answered) → p ≡ path → ((go : ℕ → RegionNode → Option Txn → Answered) → at_region s path go ≡ refused s c) → at_region s p go ≡ refused s c
+at_path : (s : State) (path p : List ℕ) (c : ℕ) (go : ℕ → RegionNode → Option Txn → Answered) → p ≡ path → ((go : ℕ → RegionNode → Option Txn → Answered) → at_region s path go ≡ refused_by s c) → at_region s p go ≡ refused_by s c
 at_path s path p c go at h = ap (λ x. at_region s x go) at ∙ h go
 
-served_refused : (s : State) (path : List ℕ) (c : ℕ) (request : Request) → IsAt path request → ((go : ℕ → RegionNode → Option Txn → Answered) → at_region s path go ≡ refused s c) → answer_of s request ≡ refused s c
+served_refused : (s : State) (path : List ℕ) (c : ℕ) (request : Request) → IsAt path request → ((go : ℕ → RegionNode → Option Txn → Answered) → at_region s path go ≡ refused_by s c) → answer_of s request ≡ refused_by s c
 served_refused s path c (Begin p) at h = at_path s path p c (λ i r o. changed s i (begin_on i r o)) at h
 served_refused s path c (Range p off len) at h = at_path s path p c (λ i r o. changed s i (range_on r o off len)) at h
 served_refused s path c (Put p off bytes) at h = at_path s path p c (λ i r o. changed s i (put_on r o off bytes)) at h

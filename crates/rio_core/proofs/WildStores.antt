@@ -19,28 +19,29 @@ use Rattle.rio_requests.specs.Went.{StoppedOn, Went}
 use Rattle.rio_requests.proofs.WentRules.{quiet_refl}
 use Rattle.rio_requests.specs.declared.reply.Reply.TheVariants.{Ok as Done, Err as RefusedBy}
 use Rattle.rio_requests.specs.declared.request.Request.TheVariants.{Wild, Arm}
+use Rattle.rio_model.specs.declared.refusal.Refusal.TheVariants.{OutOfRange}
 use Rattle.rio_core.specs.Serving.{Answering, Holds, Serves, TellsFault}
 use Rattle.rio_core.proofs.RegionEnds.{leaves_all, stands_same}
 use Rattle.rio_core.proofs.WentBy.{went_still}
 
 -- ---- the answers
 
-wild_past : (s : State) (at value : ℕ) → 512 * s.pages ≤ at → answer_of s (Wild at value) ≡ refused s 19
-wild_past s at value past = ap (λ b. cond b (refused s 19) (cond (nat_lt at (512 * (s.pages - s.scratch))) (record { next = s; reply = None }) (answered s Done))) (le-leb (512 * s.pages) at past)
+wild_past : (s : State) (at value : ℕ) → 512 * s.pages ≤ at → answer_of s (Wild at value) ≡ refused s OutOfRange
+wild_past s at value past = ap (λ b. cond b (refused s OutOfRange) (cond (nat_lt at (512 * (s.pages - s.scratch))) (record { next = s; reply = None }) (answered s Done))) (le-leb (512 * s.pages) at past)
 
 wild_within : (s : State) (at value : ℕ) → at < 512 * s.pages → answer_of s (Wild at value) ≡ cond (nat_lt at (512 * (s.pages - s.scratch))) (record { next = s; reply = None }) (answered s Done)
-wild_within s at value within = ap (λ b. cond b (refused s 19) (cond (nat_lt at (512 * (s.pages - s.scratch))) (record { next = s; reply = None }) (answered s Done))) (lt-leb (512 * s.pages) at within)
+wild_within s at value within = ap (λ b. cond b (refused s OutOfRange) (cond (nat_lt at (512 * (s.pages - s.scratch))) (record { next = s; reply = None }) (answered s Done))) (lt-leb (512 * s.pages) at within)
 
 wild_scratch : (s : State) (at value : ℕ) → at < 512 * s.pages → 512 * (s.pages - s.scratch) ≤ at → answer_of s (Wild at value) ≡ answered s Done
 wild_scratch s at value within behind =
     let no : nat_lt at (512 * (s.pages - s.scratch)) ≡ false = grind (arith, nat_tests) in
     wild_within s at value within ∙ ap (λ b. cond b (record { next = s; reply = None }) (answered s Done)) no
 
-arm_past : (s : State) (step at value : ℕ) → 512 * s.pages ≤ at → answer_of s (Arm step at value) ≡ refused s 19
-arm_past s step at value past = ap (λ b. cond b (refused s 19) (answered s Done)) (le-leb (512 * s.pages) at past)
+arm_past : (s : State) (step at value : ℕ) → 512 * s.pages ≤ at → answer_of s (Arm step at value) ≡ refused s OutOfRange
+arm_past s step at value past = ap (λ b. cond b (refused s OutOfRange) (answered s Done)) (le-leb (512 * s.pages) at past)
 
 arm_within : (s : State) (step at value : ℕ) → at < 512 * s.pages → answer_of s (Arm step at value) ≡ answered s Done
-arm_within s step at value within = ap (λ b. cond b (refused s 19) (answered s Done)) (lt-leb (512 * s.pages) at within)
+arm_within s step at value within = ap (λ b. cond b (refused s OutOfRange) (answered s Done)) (lt-leb (512 * s.pages) at within)
 
 -- ---- what the core holds
 

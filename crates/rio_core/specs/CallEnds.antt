@@ -12,19 +12,21 @@ use Rattle.rio_model.specs.Paths.{names_of, walk}
 use Rattle.rio_model.specs.VolumeReads.{ReadsAs}
 use Rattle.rio_model.specs.VolumeRules.{IsMapped}
 use Rattle.rio_requests.specs.declared.reply.Reply.{Reply}
-use Rattle.rio_requests.specs.declared.reply.Reply.TheVariants.{Err as RefusedBy, Fault as Faulted}
+use Rattle.rio_requests.specs.declared.reply.Reply.TheVariants.{Fault as Faulted}
 use Rattle.rio_requests.specs.declared.request.Request.{Request}
 use Rattle.rio_requests.specs.declared.request.Request.TheVariants.{Begin, Range, Put, Get, Alloc, Free, Commit, Abort}
 use Rattle.rio_requests.specs.Crash.{crashed}
+use Rattle.rio_requests.specs.Answer.{refusal_reply}
 use Rattle.vista_region.specs.Marks.{Marks}
 use Rattle.vista_region.specs.declared.failures.TxnFail.{TxnFail}
-use Rattle.vista_region.specs.declared.failures.TxnFail.TheVariants.{NoTransaction, Doomed, NotAligned, OutOfRange, NotCovered, NotBlock, HeapFull, UndoFull, Fault, Stopped}
+use Rattle.vista_region.specs.declared.failures.TxnFail.TheVariants.{NoTransaction as TxnNoTransaction, Doomed as TxnDoomed, NotAligned as TxnNotAligned, OutOfRange as TxnOutOfRange, NotCovered as TxnNotCovered, NotBlock as TxnNotBlock, HeapFull as TxnHeapFull, UndoFull as TxnUndoFull, Fault, Stopped}
 use Rattle.vista_region.specs.declared.failures.GetFail.{GetFail}
 use Rattle.vista_region.specs.declared.failures.GetFail.TheVariants.{Doomed as GetDoomed, OutOfRange as GetOutOfRange, Fault as GetFault, Stopped as GetStopped, Memory as GetMemory}
 use Rattle.vista_region.specs.declared.failures.BeginFail.{BeginFail}
-use Rattle.vista_region.specs.declared.failures.BeginFail.TheVariants.{Busy, Memory as BeginMemory}
+use Rattle.vista_region.specs.declared.failures.BeginFail.TheVariants.{Busy as BeginBusy, Memory as BeginMemory}
 use Rattle.rio_core.specs.Regions.{RegionsHeld}
 use Rattle.rio_model.specs.RegionMoves.{RestHeld}
+use Rattle.rio_model.specs.declared.refusal.Refusal.TheVariants.{Busy, NoTransaction, NotCovered, UndoFull, HeapFull, NotBlock, OutOfRange, NotAligned, Doomed, NoMemory}
 
 -- the words that inode i holds
 abbrev pub words_at : VolumeShape → BlockWords → ℕ → ℕ → ℕ
@@ -50,14 +52,14 @@ pub record CalledOn (shape : VolumeShape) (f g : BlockWords) (marks : Marks) (s 
 -- ---- what is told of a call
 
 abbrev pub reply_to : TxnFail → Option Reply
-reply_to NoTransaction = Some (RefusedBy 14)
-reply_to NotCovered = Some (RefusedBy 15)
-reply_to UndoFull = Some (RefusedBy 16)
-reply_to HeapFull = Some (RefusedBy 17)
-reply_to NotBlock = Some (RefusedBy 18)
-reply_to OutOfRange = Some (RefusedBy 19)
-reply_to NotAligned = Some (RefusedBy 20)
-reply_to Doomed = Some (RefusedBy 22)
+reply_to TxnNoTransaction = Some (refusal_reply NoTransaction)
+reply_to TxnNotCovered = Some (refusal_reply NotCovered)
+reply_to TxnUndoFull = Some (refusal_reply UndoFull)
+reply_to TxnHeapFull = Some (refusal_reply HeapFull)
+reply_to TxnNotBlock = Some (refusal_reply NotBlock)
+reply_to TxnOutOfRange = Some (refusal_reply OutOfRange)
+reply_to TxnNotAligned = Some (refusal_reply NotAligned)
+reply_to TxnDoomed = Some (refusal_reply Doomed)
 reply_to (Fault k) = Some (Faulted k)
 reply_to Stopped = None
 
@@ -67,16 +69,16 @@ told says (Err e) = reply_to e
 
 abbrev pub get_told : (List ℕ → Reply) → Result (List ℕ) GetFail → Option Reply
 get_told says (Ok bytes) = Some (says bytes)
-get_told says (Err GetOutOfRange) = Some (RefusedBy 19)
-get_told says (Err GetDoomed) = Some (RefusedBy 22)
-get_told says (Err GetMemory) = Some (RefusedBy 31)
+get_told says (Err GetOutOfRange) = Some (refusal_reply OutOfRange)
+get_told says (Err GetDoomed) = Some (refusal_reply Doomed)
+get_told says (Err GetMemory) = Some (refusal_reply NoMemory)
 get_told says (Err GetFault) = Some (Faulted 0)
 get_told says (Err GetStopped) = None
 
 abbrev pub begin_told : Reply → Result (Unit {0}) BeginFail → Option Reply
 begin_told done (Ok v) = Some done
-begin_told done (Err Busy) = Some (RefusedBy 13)
-begin_told done (Err BeginMemory) = Some (RefusedBy 31)
+begin_told done (Err BeginBusy) = Some (refusal_reply Busy)
+begin_told done (Err BeginMemory) = Some (refusal_reply NoMemory)
 
 -- a stop alone tells nothing
 abbrev pub TellsAs : Option Reply → Result Reply MachineStopped → Type 0

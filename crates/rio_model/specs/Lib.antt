@@ -13,6 +13,7 @@ pub mod Nodes
 pub mod Paths
 pub mod Placed
 pub mod ReadState
+pub mod Refusals
 pub mod RegionMoves
 pub mod Registry
 pub mod Sizes

@@ -5,6 +5,8 @@ use Rattle.rio_base.specs.Bytes.{pieces}
 use Rattle.rio_model.specs.declared.node.Node.{Node}
 use Rattle.rio_model.specs.declared.node.Node.TheVariants.{Dir}
 use Rattle.rio_model.specs.declared.state.State.{State}
+use Rattle.rio_model.specs.Refusals.{refusal}
+use Rattle.rio_model.specs.declared.refusal.Refusal.TheVariants.{NotFound, NotADirectory}
 
 -- a byte that may stand in a name: 0x21 to 0x7e, but no slash
 pub record IsNameByte (b : ℕ) : Type 0 where
@@ -41,20 +43,20 @@ abbrev pub is_dir : Option Node → Bool
 is_dir (Some Dir) = true
 is_dir _ = false
 
--- from a name's inode on, or refusal 2 where the name is missing
+-- from a name's inode on, unless the name is missing
 abbrev pub from_found : Option ℕ → (ℕ → Result ℕ ℕ) → Result ℕ ℕ
-from_found None go = Err 2
+from_found None go = refusal NotFound
 from_found (Some i) go = go i
 
--- the inode at the end of these names, from inode i on: refusal 4 at a step through a node that is no directory,
--- and 2 at a name that is missing
+-- the inode at the end of these names, from inode i on, unless a step is through a node that is no directory, or a name is
+-- missing. A walk is refused by a number
 abbrev pub walk : State → ℕ → List (List ℕ) → Result ℕ ℕ
 walk s i [] = Ok i
-walk s i (name ∷ names) = if is_dir (get s.nodes i) then from_found (get s.names (i, name)) (λ j. walk s j names) else Err 4
+walk s i (name ∷ names) = if is_dir (get s.nodes i) then from_found (get s.names (i, name)) (λ j. walk s j names) else refusal NotADirectory
 
--- the end of a walk that must be a directory: refusal 4 where it is none
+-- the end of a walk that must be a directory
 abbrev pub as_dir : State → Result ℕ ℕ → Result ℕ ℕ
-as_dir s (Ok i) = if is_dir (get s.nodes i) then Ok i else Err 4
+as_dir s (Ok i) = if is_dir (get s.nodes i) then Ok i else refusal NotADirectory
 as_dir s (Err c) = Err c
 
 abbrev pub walk_to_dir : State → List (List ℕ) → Result ℕ ℕ

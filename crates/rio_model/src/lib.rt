@@ -4,6 +4,7 @@
 mod census;
 mod names;
 mod node;
+mod refusal;
 mod rows;
 mod state;
 mod txn;
@@ -11,6 +12,7 @@ mod txn;
 pub use census::{Census, Owner};
 pub use names::{is_name, is_name_byte, may_be_name};
 pub use node::{Node, RegionNode};
+pub use refusal::Refusal;
 pub use rows::{NameRow, NameRows, NodeRow, NodeRows};
 pub use state::State;
 pub use txn::{Txn, TxnList};

@@ -10,6 +10,7 @@ use Rattle.rio_requests.specs.Answer.{answered, at_inode, on_file, refused}
 use Rattle.rio_requests.specs.Answers.{answer_of, found, is_below, is_empty, is_open, make, make_new, make_row, new_blocks, new_region, read, read_in, rename_at, rename_row, rename_to, region_at, region_row, replace_row, rmdir_at, rmdir_node, row_wanted, stat_node, truncate, truncate_in, unlink_at, unlink_node, wanted, with_room, with_size, write, write_file, write_in}
 use Rattle.rio_requests.specs.Parts.{FaultStep}
 use Rattle.rio_model.specs.Paths.{names_of}
+use Rattle.rio_model.specs.declared.refusal.Refusal.TheVariants.{Exists, NotADirectory, IsADirectory, NotEmpty, TooLarge, NoSpace, Busy, OutOfRange, InsideItself}
 use Rattle.rio_requests.specs.Run.{Step}
 use Rattle.rio_requests.specs.RegionAnswers.{Outcome, abort_on, alloc_on, begin_on, commit_on, free_on, get_on, put_on, range_on}
 use Rattle.rio_requests.specs.Transactions.{arm, at_region, changed, looked, on_region, txn_at, wild}
@@ -39,10 +40,10 @@ keeps_file s (Some (File bytes)) go h = h bytes
 keeps_file s (Some (Region r)) go h = keeps_refl s
 
 keeps_room : (s : State) (wants : ℕ) (a : Answered) → KeepsSizes s a.next → KeepsSizes s (with_room s wants a).next
-keeps_room s wants a h = keeps_if s (nat_lt (free_count s) wants) (refused s 11) a (keeps_refl s) h
+keeps_room s wants a h = keeps_if s (nat_lt (free_count s) wants) (refused s NoSpace) a (keeps_refl s) h
 
 keeps_size : (s : State) (size len : ℕ) (a : Answered) → KeepsSizes s a.next → KeepsSizes s (with_size s size len a).next
-keeps_size s size len a h = keeps_if s (nat_lt largest_size len) (refused s 10) (with_room s (wanted size len) a) (keeps_refl s) (keeps_room s (wanted size len) a h)
+keeps_size s size len a h = keeps_if s (nat_lt largest_size len) (refused s TooLarge) (with_room s (wanted size len) a) (keeps_refl s) (keeps_room s (wanted size len) a h)
 
 -- ---- requests
 
@@ -73,8 +74,8 @@ keeps_read s path off len = keeps_at s (walk s 1 (names_of path)) (read_in s off
 
 keeps_unlink_node : (s : State) (busy : List ℕ) (dir : ℕ) (name : List ℕ) (i : ℕ) → KeepsSizes s (unlink_node s busy dir name i).next
 keeps_unlink_node s busy dir name i =
-    keeps_if s (is_dir (get s.nodes i)) (refused s 5) _ (keeps_refl s)
-    (keeps_if s (is_open busy i (get s.nodes i)) (refused s 13) _ (keeps_refl s) (record { shape = refl; pages = refl; scratch = refl }))
+    keeps_if s (is_dir (get s.nodes i)) (refused s IsADirectory) _ (keeps_refl s)
+    (keeps_if s (is_open busy i (get s.nodes i)) (refused s Busy) _ (keeps_refl s) (record { shape = refl; pages = refl; scratch = refl }))
 
 keeps_unlink : (s : State) (busy : List ℕ) (names : List (List ℕ)) → KeepsSizes s (unlink_at s busy names).next
 keeps_unlink s busy [] = keeps_refl s
@@ -82,8 +83,8 @@ keeps_unlink s busy (name ∷ names) = keeps_at s (walk_to_dir s (front_of (name
 
 keeps_rmdir_node : (s : State) (dir : ℕ) (name : List ℕ) (i : ℕ) → KeepsSizes s (rmdir_node s dir name i).next
 keeps_rmdir_node s dir name i =
-    keeps_if s (not (is_dir (get s.nodes i))) (refused s 4) _ (keeps_refl s)
-    (keeps_if s (is_empty (names_in s i)) _ (refused s 6) (record { shape = refl; pages = refl; scratch = refl }) (keeps_refl s))
+    keeps_if s (not (is_dir (get s.nodes i))) (refused s NotADirectory) _ (keeps_refl s)
+    (keeps_if s (is_empty (names_in s i)) _ (refused s NotEmpty) (record { shape = refl; pages = refl; scratch = refl }) (keeps_refl s))
 
 keeps_rmdir : (s : State) (names : List (List ℕ)) → KeepsSizes s (rmdir_at s names).next
 keeps_rmdir s [] = keeps_refl s
@@ -92,8 +93,8 @@ keeps_rmdir s (name ∷ names) = keeps_at s (walk_to_dir s (front_of (name ∷ n
 keeps_replace_row : (s : State) (busy : List ℕ) (dir : ℕ) (name : List ℕ) (to_dir : ℕ) (to_name : List ℕ) (i j : ℕ) → KeepsSizes s (replace_row s busy dir name to_dir to_name i j).next
 keeps_replace_row s busy dir name to_dir to_name i j =
     keeps_if s (i == j) _ _ (keeps_refl s)
-    (keeps_if s (is_dir (get s.nodes i) || is_dir (get s.nodes j)) (refused s 3) _ (keeps_refl s)
-    (keeps_if s (is_open busy j (get s.nodes j)) (refused s 13) _ (keeps_refl s) (record { shape = refl; pages = refl; scratch = refl })))
+    (keeps_if s (is_dir (get s.nodes i) || is_dir (get s.nodes j)) (refused s Exists) _ (keeps_refl s)
+    (keeps_if s (is_open busy j (get s.nodes j)) (refused s Busy) _ (keeps_refl s) (record { shape = refl; pages = refl; scratch = refl })))
 
 keeps_rename_row : (s : State) (busy : List ℕ) (dir : ℕ) (name : List ℕ) (to_dir : ℕ) (to_name : List ℕ) (i : ℕ) (j : Option ℕ) → KeepsSizes s (rename_row s busy dir name to_dir to_name i j).next
 keeps_rename_row s busy dir name to_dir to_name i None = keeps_room s _ _ (record { shape = refl; pages = refl; scratch = refl })
@@ -102,7 +103,7 @@ keeps_rename_row s busy dir name to_dir to_name i (Some j) = keeps_replace_row s
 keeps_rename_to : (s : State) (busy : List ℕ) (from to : List (List ℕ)) (i to_dir : ℕ) → KeepsSizes s (rename_to s busy from to i to_dir).next
 keeps_rename_to s busy [] to i to_dir = keeps_refl s
 keeps_rename_to s busy (name ∷ names) to i to_dir =
-    keeps_if s (is_below (name ∷ names) to) (refused s 21) _ (keeps_refl s)
+    keeps_if s (is_below (name ∷ names) to) (refused s InsideItself) _ (keeps_refl s)
     (keeps_at s (walk_to_dir s (front_of (name ∷ names))) _ (λ dir. keeps_rename_row s busy dir (last_of (name ∷ names)) to_dir (last_of to) i (get s.names (to_dir, last_of to))))
 
 keeps_rename : (s : State) (busy : List ℕ) (from to : List (List ℕ)) → KeepsSizes s (rename_at s busy from to).next
@@ -119,7 +120,7 @@ keeps_stat_node s i None = keeps_refl s
 
 keeps_region_row : (s : State) (dir : ℕ) (name : List ℕ) (pages undo : ℕ) (i : Option ℕ) → KeepsSizes s (region_row s dir name pages undo i).next
 keeps_region_row s dir name pages undo (Some i) = keeps_refl s
-keeps_region_row s dir name pages undo None = keeps_if s (nat_lt largest_size (8 * region_words undo pages)) (refused s 10) (make_new s dir name (Region (new_region pages undo)) (least_free s)) (keeps_refl s) (keeps_make_new s dir name (Region (new_region pages undo)) (least_free s))
+keeps_region_row s dir name pages undo None = keeps_if s (nat_lt largest_size (8 * region_words undo pages)) (refused s TooLarge) (make_new s dir name (Region (new_region pages undo)) (least_free s)) (keeps_refl s) (keeps_make_new s dir name (Region (new_region pages undo)) (least_free s))
 
 keeps_region_at : (s : State) (names : List (List ℕ)) (pages undo : ℕ) → KeepsSizes s (region_at s names pages undo).next
 keeps_region_at s [] pages undo = keeps_refl s
@@ -143,10 +144,10 @@ keeps_at_region : (s : State) (path : List ℕ) (go : ℕ → RegionNode → Opt
 keeps_at_region s path go h = keeps_at s (walk s 1 (names_of path)) _ (λ i. keeps_on_region s (get s.nodes i) _ (λ r. h i r (txn_at s.txns i)))
 
 keeps_wild : (s : State) (at : ℕ) → KeepsSizes s (wild s at).next
-keeps_wild s at = keeps_if s _ (refused s 19) _ (keeps_refl s) (keeps_if s _ (record { next = s; reply = None }) (answered s Done) (keeps_refl s) (keeps_refl s))
+keeps_wild s at = keeps_if s _ (refused s OutOfRange) _ (keeps_refl s) (keeps_if s _ (record { next = s; reply = None }) (answered s Done) (keeps_refl s) (keeps_refl s))
 
 keeps_arm : (s : State) (at : ℕ) → KeepsSizes s (arm s at).next
-keeps_arm s at = keeps_if s _ (refused s 19) (answered s Done) (keeps_refl s) (keeps_refl s)
+keeps_arm s at = keeps_if s _ (refused s OutOfRange) (answered s Done) (keeps_refl s) (keeps_refl s)
 
 -- ---- all of them
 

@@ -6,12 +6,13 @@ use Rattle.rio_base.specs.Rules.{true_false}
 use Rattle.rio_model.specs.FileParts.{LeadsTo, written}
 use Rattle.rio_model.specs.Paths.{names_of}
 use Rattle.rio_model.specs.States.{bytes_from}
+use Rattle.rio_model.specs.declared.refusal.Refusal.TheVariants.{NotFound, IsADirectory, IsARegion, TooLarge, NoSpace}
 use Rattle.rio_requests.specs.declared.answered.Answered.{Answered}
 use Rattle.rio_requests.specs.declared.reply.Reply.{Reply}
 use Rattle.rio_requests.specs.declared.reply.Reply.TheVariants.{Ok as Done, Number, Bytes, Stat, Names as NamesOf}
 use Rattle.rio_requests.specs.declared.request.Request.{Request}
 use Rattle.rio_requests.specs.declared.request.Request.TheVariants.{Mkdir, Create, Region as MakeRegion, Write, Read, Truncate, Unlink, Rmdir, Rename, Stat as StatOf, List as ListOf, Sync, Put, Alloc, Free, Abort, Txns, Wild, Arm}
-use Rattle.rio_requests.specs.Answer.{answered, at_inode, on_file, refused}
+use Rattle.rio_requests.specs.Answer.{answered, at_inode, on_file, refused, refused_by}
 use Rattle.rio_requests.specs.Answers.{answer_of, at_row, create, found, is_below, is_empty, is_open, list, make, make_new, make_region, make_row, mkdir, moved, new_blocks, new_region, read, read_in, region_at, region_row, rename, rename_at, rename_row, rename_to, replace_row, replaced, rmdir, rmdir_at, rmdir_node, row_wanted, stat, stat_node, truncate, truncate_in, unlink, unlink_at, unlink_node, wanted, with_room, with_size, without, write, write_file, write_in}
 use Rattle.rio_requests.specs.Crash.{NotOpen, OpenRegions, crashed}
 use Rattle.rio_requests.specs.Parts.{FaultStep, IsPart, LeadStep, NoneDone, PartOf, WriteDone}
@@ -29,7 +30,7 @@ pub record StopsAlike (s : State) (a b : Answered) : Type 0 where
 
 -- ---- the parts of answers
 
-stops_refused : (s : State) (number : ℕ) → StopsAlike s (refused s number) (refused (crashed s) number)
+stops_refused : (s : State) (number : ℕ) → StopsAlike s (refused_by s number) (refused_by (crashed s) number)
 stops_refused s number = record { leaves = leaves_itself s; after = refl }
 
 stops_answered : (s : State) (reply : Reply) → StopsAlike s (answered s reply) (answered (crashed s) reply)
@@ -44,19 +45,19 @@ stops_if s false b x y v w e h k = subst (λ c. StopsAlike s y (cond c v w)) (sy
 
 stops_at : (s : State) (a b : Result ℕ ℕ) (go went : ℕ → Answered) → b ≡ a → ((i : ℕ) → StopsAlike s (go i) (went i)) → StopsAlike s (at_inode s a go) (at_inode (crashed s) b went)
 stops_at s (Ok i) b go went e h = subst (λ c. StopsAlike s (go i) (at_inode (crashed s) c went)) (sym e) (h i)
-stops_at s (Err number) b go went e h = subst (λ c. StopsAlike s (refused s number) (at_inode (crashed s) c went)) (sym e) (stops_refused s number)
+stops_at s (Err number) b go went e h = subst (λ c. StopsAlike s (refused_by s number) (at_inode (crashed s) c went)) (sym e) (stops_refused s number)
 
 stops_file : (s : State) (n m : Option Node) (go went : List ℕ → Answered) → Alike n m → ((bytes : List ℕ) → n ≡ Some (File bytes) → StopsAlike s (go bytes) (went bytes)) → StopsAlike s (on_file s n go) (on_file (crashed s) m went)
-stops_file s None m go went e h = subst (λ x. StopsAlike s (refused s 2) (on_file (crashed s) x went)) (sym e) (stops_refused s 2)
-stops_file s (Some Dir) m go went e h = subst (λ x. StopsAlike s (refused s 5) (on_file (crashed s) x went)) (sym e) (stops_refused s 5)
+stops_file s None m go went e h = subst (λ x. StopsAlike s (refused s NotFound) (on_file (crashed s) x went)) (sym e) (stops_refused s 2)
+stops_file s (Some Dir) m go went e h = subst (λ x. StopsAlike s (refused s IsADirectory) (on_file (crashed s) x went)) (sym e) (stops_refused s 5)
 stops_file s (Some (File bytes)) m go went e h = subst (λ x. StopsAlike s (go bytes) (on_file (crashed s) x went)) (sym e) (h bytes refl)
-stops_file s (Some (Region r)) m go went e h = subst (λ x. StopsAlike s (refused s 7) (on_file (crashed s) x went)) (sym e.is) (stops_refused s 7)
+stops_file s (Some (Region r)) m go went e h = subst (λ x. StopsAlike s (refused s IsARegion) (on_file (crashed s) x went)) (sym e.is) (stops_refused s 7)
 
 stops_room : (s : State) → OpenRegions s → (wants : ℕ) (a b : Answered) → StopsAlike s a b → StopsAlike s (with_room s wants a) (with_room (crashed s) wants b)
-stops_room s h wants a b k = stops_if s (nat_lt (free_count s) wants) (nat_lt (free_count (crashed s)) wants) (refused s 11) a (refused (crashed s) 11) b (ap (λ n. nat_lt n wants) (free_count_crashed s h)) (λ e. stops_refused s 11) (λ e. k)
+stops_room s h wants a b k = stops_if s (nat_lt (free_count s) wants) (nat_lt (free_count (crashed s)) wants) (refused s NoSpace) a (refused (crashed s) NoSpace) b (ap (λ n. nat_lt n wants) (free_count_crashed s h)) (λ e. stops_refused s 11) (λ e. k)
 
 stops_size : (s : State) → OpenRegions s → (size len : ℕ) (a b : Answered) → StopsAlike s a b → StopsAlike s (with_size s size len a) (with_size (crashed s) size len b)
-stops_size s h size len a b k = stops_if s (nat_lt largest_size len) (nat_lt largest_size len) (refused s 10) (with_room s (wanted size len) a) (refused (crashed s) 10) (with_room (crashed s) (wanted size len) b) refl (λ e. stops_refused s 10) (λ e. stops_room s h (wanted size len) a b k)
+stops_size s h size len a b k = stops_if s (nat_lt largest_size len) (nat_lt largest_size len) (refused s TooLarge) (with_room s (wanted size len) a) (refused (crashed s) TooLarge) (with_room (crashed s) (wanted size len) b) refl (λ e. stops_refused s 10) (λ e. stops_room s h (wanted size len) a b k)
 
 -- at the directory of the last name
 stops_row : (s : State) → OpenRegions s → (names : List (List ℕ)) (go went : ℕ → Answered) → ((dir : ℕ) → StopsAlike s (go dir) (went dir)) → StopsAlike s (at_row s names go) (at_row (crashed s) names went)
@@ -205,7 +206,7 @@ stops_rename s h from (name ∷ names) = stops_at s (walk s 1 from) (walk (crash
 -- ---- stat, list
 
 stat_by : (s : State) (i : ℕ) (n m : Option Node) → Alike n m → StopsAlike s (stat_node s i n) (stat_node (crashed s) i m)
-stat_by s i None m e = subst (λ x. StopsAlike s (refused s 2) (stat_node (crashed s) i x)) (sym e) (stops_refused s 2)
+stat_by s i None m e = subst (λ x. StopsAlike s (refused s NotFound) (stat_node (crashed s) i x)) (sym e) (stops_refused s 2)
 stat_by s i (Some Dir) m e = subst (λ x. StopsAlike s (stat_node s i (Some Dir)) (stat_node (crashed s) i x)) (sym e) (stops_answered s _)
 stat_by s i (Some (File bytes)) m e = subst (λ x. StopsAlike s (stat_node s i (Some (File bytes))) (stat_node (crashed s) i x)) (sym e) (stops_answered s _)
 stat_by s i (Some (Region r)) m e =

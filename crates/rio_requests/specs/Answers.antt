@@ -17,6 +17,7 @@ use Rattle.rio_model.specs.FileParts.{resized, written}
 use Rattle.rio_model.specs.Paths.{from_found, is_dir, names_of, walk, walk_to_dir}
 use Rattle.rio_model.specs.Sizes.{blocks_for, data_pages, free_count, largest_size}
 use Rattle.rio_model.specs.Undo.{region_words}
+use Rattle.rio_model.specs.declared.refusal.Refusal.TheVariants.{NotFound, Exists, NotADirectory, IsADirectory, NotEmpty, IsRoot, TooLarge, NoSpace, NoInode, Busy, InsideItself}
 use Rattle.rio_requests.specs.RegionAnswers.{abort_on, alloc_on, begin_on, commit_on, free_on, get_on, put_on, range_on}
 use Rattle.rio_requests.specs.Transactions.{arm, at_region, changed, looked, txns, wild}
 
@@ -30,21 +31,21 @@ wanted size len = blocks_for len - blocks_for size
 abbrev pub row_wanted : State → ℕ → ℕ
 row_wanted s dir = wanted (64 * length (names_in s dir)) (64 * (length (names_in s dir) + 1))
 
--- 11 where fewer blocks are free
+-- unless fewer blocks are free
 abbrev pub with_room : State → ℕ → Answered → Answered
-with_room s wants answer = if nat_lt (free_count s) wants then refused s 11 else answer
+with_room s wants answer = if nat_lt (free_count s) wants then refused s NoSpace else answer
 
--- 10 where no node can have so many bytes, then 11
+-- unless no node can have so many bytes, or there is no room
 abbrev pub with_size : State → ℕ → ℕ → Answered → Answered
-with_size s size len answer = if nat_lt largest_size len then refused s 10 else with_room s (wanted size len) answer
+with_size s size len answer = if nat_lt largest_size len then refused s TooLarge else with_room s (wanted size len) answer
 
 -- ---- rows
 
--- 2 and 4 of the directory that holds, or is to hold, the last name
+-- in the directory that holds, or is to hold, the last name
 abbrev pub at_row : State → List (List ℕ) → (ℕ → Answered) → Answered
 at_row s names go = at_inode s (walk_to_dir s (front_of names)) go
 
--- what a name of a directory names, or refusal 2
+-- what a name of a directory names
 abbrev pub found : State → ℕ → List ℕ → Result ℕ ℕ
 found s dir name = from_found (get s.names (dir, name)) Ok
 
@@ -64,19 +65,19 @@ new_blocks Dir = 0
 new_blocks (File bytes) = blocks_for (length bytes)
 new_blocks (Region r) = blocks_for (8 * region_words r.undo (data_pages r))
 
--- 12 where no inode is free, then 11
+-- on the least free inode
 abbrev pub make_new : State → ℕ → List ℕ → Node → Option ℕ → Answered
-make_new s dir name node None = refused s 12
+make_new s dir name node None = refused s NoInode
 make_new s dir name node (Some i) = with_room s (new_blocks node + row_wanted s dir) (answered (with_new s dir name i node) (Number i))
 
--- 3 where the name is there
+-- under a name that is not there
 abbrev pub make_row : State → ℕ → List ℕ → Node → Option ℕ → Answered
-make_row s dir name node (Some i) = refused s 3
+make_row s dir name node (Some i) = refused s Exists
 make_row s dir name node None = make_new s dir name node (least_free s)
 
 -- an empty node under the last name. `/` is there already
 abbrev pub make : State → List (List ℕ) → Node → Answered
-make s [] node = refused s 3
+make s [] node = refused s Exists
 make s (name ∷ names) node = at_row s (name ∷ names) (λ dir. make_row s dir (last_of (name ∷ names)) node (get s.names (dir, last_of (name ∷ names))))
 
 abbrev pub mkdir : State → List ℕ → Answered
@@ -91,13 +92,13 @@ create s path = make s (names_of path) (File [])
 abbrev pub new_region : ℕ → ℕ → RegionNode
 new_region pages undo = record { words = replicate (512 * pages) 0; undo = undo; blocks = [] }
 
--- 3 where the name is there, 10 where no node can have so many pages
+-- under a name that is not there, unless no node can have so many pages
 abbrev pub region_row : State → ℕ → List ℕ → ℕ → ℕ → Option ℕ → Answered
-region_row s dir name pages undo (Some i) = refused s 3
-region_row s dir name pages undo None = if nat_lt largest_size (8 * region_words undo pages) then refused s 10 else make_new s dir name (Region (new_region pages undo)) (least_free s)
+region_row s dir name pages undo (Some i) = refused s Exists
+region_row s dir name pages undo None = if nat_lt largest_size (8 * region_words undo pages) then refused s TooLarge else make_new s dir name (Region (new_region pages undo)) (least_free s)
 
 abbrev pub region_at : State → List (List ℕ) → ℕ → ℕ → Answered
-region_at s [] pages undo = refused s 3
+region_at s [] pages undo = refused s Exists
 region_at s (name ∷ names) pages undo = at_row s (name ∷ names) (λ dir. region_row s dir (last_of (name ∷ names)) pages undo (get s.names (dir, last_of (name ∷ names))))
 
 abbrev pub make_region : State → List ℕ → ℕ → ℕ → Answered
@@ -139,13 +140,13 @@ abbrev pub is_open : List ℕ → ℕ → Option Node → Bool
 is_open busy i (Some (Region r)) = is_among busy i
 is_open busy i _ = false
 
--- 5 at a directory, 13 at an open region
+-- a file, or a region that is not open
 abbrev pub unlink_node : State → List ℕ → ℕ → List ℕ → ℕ → Answered
-unlink_node s busy dir name i = if is_dir (get s.nodes i) then refused s 5 else if is_open busy i (get s.nodes i) then refused s 13 else answered (without s dir name i) Done
+unlink_node s busy dir name i = if is_dir (get s.nodes i) then refused s IsADirectory else if is_open busy i (get s.nodes i) then refused s Busy else answered (without s dir name i) Done
 
--- 9 at the root
+-- the root has no name
 abbrev pub unlink_at : State → List ℕ → List (List ℕ) → Answered
-unlink_at s busy [] = refused s 9
+unlink_at s busy [] = refused s IsRoot
 unlink_at s busy (name ∷ names) = at_row s (name ∷ names) (λ dir. at_inode s (found s dir (last_of (name ∷ names))) (unlink_node s busy dir (last_of (name ∷ names))))
 
 abbrev pub unlink : State → List ℕ → List ℕ → Answered
@@ -155,12 +156,12 @@ abbrev pub is_empty : List (List ℕ) → Bool
 is_empty [] = true
 is_empty (name ∷ names) = false
 
--- 4 where it is no directory, 6 where it has names
+-- an empty directory
 abbrev pub rmdir_node : State → ℕ → List ℕ → ℕ → Answered
-rmdir_node s dir name i = if not (is_dir (get s.nodes i)) then refused s 4 else if is_empty (names_in s i) then answered (without s dir name i) Done else refused s 6
+rmdir_node s dir name i = if not (is_dir (get s.nodes i)) then refused s NotADirectory else if is_empty (names_in s i) then answered (without s dir name i) Done else refused s NotEmpty
 
 abbrev pub rmdir_at : State → List (List ℕ) → Answered
-rmdir_at s [] = refused s 9
+rmdir_at s [] = refused s IsRoot
 rmdir_at s (name ∷ names) = at_row s (name ∷ names) (λ dir. at_inode s (found s dir (last_of (name ∷ names))) (rmdir_node s dir (last_of (name ∷ names))))
 
 abbrev pub rmdir : State → List ℕ → Answered
@@ -179,7 +180,7 @@ is_below (top ∷ tops) (name ∷ names) = bytes_eq top name && is_below tops na
 abbrev pub moved : State → ℕ → List ℕ → ℕ → List ℕ → ℕ → State
 moved s dir name to_dir to_name i = record s { names = insert (remove s.names (dir, name)) (to_dir, to_name) i }
 
--- 11 where a directory that gets a name has no room for it
+-- into a directory that has room for one name more, where it is another one
 abbrev pub move_row : State → ℕ → List ℕ → ℕ → List ℕ → ℕ → Answered
 move_row s dir name to_dir to_name i = with_room s (if dir == to_dir then 0 else row_wanted s to_dir) (answered (moved s dir name to_dir to_name i) Done)
 
@@ -187,28 +188,28 @@ move_row s dir name to_dir to_name i = with_room s (if dir == to_dir then 0 else
 abbrev pub replaced : State → ℕ → List ℕ → ℕ → List ℕ → ℕ → ℕ → State
 replaced s dir name to_dir to_name i j = record (moved s dir name to_dir to_name i) { nodes = remove s.nodes j }
 
--- 3 where one of the two is a directory, 13 where an open region would go
+-- neither is a directory, and what goes is no open region
 abbrev pub replace_row : State → List ℕ → ℕ → List ℕ → ℕ → List ℕ → ℕ → ℕ → Answered
 replace_row s busy dir name to_dir to_name i j =
     if i == j then answered s Done else
-    if is_dir (get s.nodes i) || is_dir (get s.nodes j) then refused s 3 else
-    if is_open busy j (get s.nodes j) then refused s 13 else
+    if is_dir (get s.nodes i) || is_dir (get s.nodes j) then refused s Exists else
+    if is_open busy j (get s.nodes j) then refused s Busy else
     answered (replaced s dir name to_dir to_name i j) Done
 
 abbrev pub rename_row : State → List ℕ → ℕ → List ℕ → ℕ → List ℕ → ℕ → Option ℕ → Answered
 rename_row s busy dir name to_dir to_name i None = move_row s dir name to_dir to_name i
 rename_row s busy dir name to_dir to_name i (Some j) = replace_row s busy dir name to_dir to_name i j
 
--- 9 where one is the root, 21 where the new path lies below the old one
+-- the root does not move, and nothing moves below itself
 abbrev pub rename_to : State → List ℕ → List (List ℕ) → List (List ℕ) → ℕ → ℕ → Answered
-rename_to s busy [] to i to_dir = refused s 9
+rename_to s busy [] to i to_dir = refused s IsRoot
 rename_to s busy (name ∷ names) to i to_dir =
-    if is_below (name ∷ names) to then refused s 21 else
+    if is_below (name ∷ names) to then refused s InsideItself else
     at_row s (name ∷ names) (λ dir. rename_row s busy dir (last_of (name ∷ names)) to_dir (last_of to) i (get s.names (to_dir, last_of to)))
 
--- 2 and 4 of the old path, then of the directory that is to hold the new name
+-- the walk of the old path comes first, then that to the directory that is to hold the new name
 abbrev pub rename_at : State → List ℕ → List (List ℕ) → List (List ℕ) → Answered
-rename_at s busy from [] = at_inode s (walk s 1 from) (λ i. refused s 9)
+rename_at s busy from [] = at_inode s (walk s 1 from) (λ i. refused s IsRoot)
 rename_at s busy from (name ∷ names) = at_inode s (walk s 1 from) (λ i. at_row s (name ∷ names) (rename_to s busy from (name ∷ names) i))
 
 abbrev pub rename : State → List ℕ → List ℕ → List ℕ → Answered
@@ -221,7 +222,7 @@ abbrev pub stat_node : State → ℕ → Option Node → Answered
 stat_node s i (Some Dir) = answered s (Stat (record { 0 = i }) 1 (64 * length (names_in s i)))
 stat_node s i (Some (File bytes)) = answered s (Stat (record { 0 = i }) 2 (length bytes))
 stat_node s i (Some (Region r)) = answered s (Stat (record { 0 = i }) 3 (4096 * data_pages r))
-stat_node s i None = refused s 2
+stat_node s i None = refused s NotFound
 
 abbrev pub stat : State → List ℕ → Answered
 stat s path = at_inode s (walk s 1 (names_of path)) (λ i. stat_node s i (get s.nodes i))

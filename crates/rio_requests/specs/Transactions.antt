@@ -7,9 +7,10 @@ use Rattle.rio_model.specs.declared.node.RegionNode.{RegionNode}
 use Rattle.rio_model.specs.declared.state.State.{State}
 use Rattle.rio_model.specs.declared.txn.Txn.{Txn}
 use Rattle.rio_model.specs.Paths.{names_of, walk}
+use Rattle.rio_model.specs.declared.refusal.Refusal.TheVariants.{NotFound, NotARegion, OutOfRange}
 use Rattle.rio_requests.specs.declared.answered.Answered.{Answered}
 use Rattle.rio_requests.specs.declared.reply.Reply.TheVariants.{Ok as Done, Inos}
-use Rattle.rio_requests.specs.Answer.{answered, at_inode, refused}
+use Rattle.rio_requests.specs.Answer.{answered, at_inode, refused, refused_by}
 use Rattle.rio_requests.specs.RegionAnswers.{Outcome}
 
 -- ---- the open transactions
@@ -37,19 +38,19 @@ with_region s i r o = record s { nodes = insert s.nodes i (Region r); txns = set
 -- what came of a request that changes them
 abbrev pub changed : State → ℕ → Outcome → Answered
 changed s i (Ok a) = answered (with_region s i a.region a.txn) a.reply
-changed s i (Err number) = refused s number
+changed s i (Err number) = refused_by s number
 
 -- and of one that looks at them
 abbrev pub looked : State → Outcome → Answered
 looked s (Ok a) = answered s a.reply
-looked s (Err number) = refused s number
+looked s (Err number) = refused_by s number
 
--- 8 where the node is no region
+-- on a node that is a region
 abbrev pub on_region : State → Option Node → (RegionNode → Answered) → Answered
 on_region s (Some (Region r)) go = go r
-on_region s (Some Dir) go = refused s 8
-on_region s (Some (File bytes)) go = refused s 8
-on_region s None go = refused s 2
+on_region s (Some Dir) go = refused s NotARegion
+on_region s (Some (File bytes)) go = refused s NotARegion
+on_region s None go = refused s NotFound
 
 abbrev pub at_region : State → List ℕ → (ℕ → RegionNode → Option Txn → Answered) → Answered
 at_region s path go = at_inode s (walk s 1 (names_of path)) (λ i. on_region s (get s.nodes i) (λ r. go i r (txn_at s.txns i)))
@@ -60,12 +61,12 @@ txns s = answered s (Inos (map (λ (t : Txn). t.ino) s.txns))
 
 -- ---- wild stores
 
--- 19 where the memory has no such word; a protected one stops the machine, so there is no reply
+-- on a word of memory. A protected one stops the machine, so there is no reply
 abbrev pub wild : State → ℕ → Answered
 wild s at =
-    if nat_le (512 * s.pages) at then refused s 19 else
+    if nat_le (512 * s.pages) at then refused s OutOfRange else
     if nat_lt at (512 * (s.pages - s.scratch)) then record { next = s; reply = None } else
     answered s Done
 
 abbrev pub arm : State → ℕ → Answered
-arm s at = if nat_le (512 * s.pages) at then refused s 19 else answered s Done
+arm s at = if nat_le (512 * s.pages) at then refused s OutOfRange else answered s Done

@@ -25,7 +25,7 @@ pub enum Reply {
     Names(NameList),
     /// Inode numbers.
     Inos(InoList),
-    /// Refused, by this number. Never 30.
+    /// Refused, by the number of a [`rio_model::Refusal`].
     Err(u8),
     /// A device fault, after so many bytes.
     Fault(u64),

@@ -3,6 +3,8 @@ use Rattle.std.specs.Prelude.{◌≡◌, ◌≤◌, ◌⊎◌, ◌%◌, ℕ, fal
 use Rattle.rio_base.specs.Regions.{RegionContent}
 use Rattle.rio_model.specs.Heap.{OfBlocks}
 use Rattle.rio_model.specs.Undo.{IsRegion, live, undo_records}
+use Rattle.rio_model.specs.Refusals.{refusal_number}
+use Rattle.rio_model.specs.declared.refusal.Refusal.TheVariants.{NoTransaction, NotCovered, UndoFull, HeapFull, NotBlock, OutOfRange, NotAligned, Doomed}
 use Rattle.rio_requests.specs.RegionAnswers.{Outcome, with_words}
 use Rattle.rio_requests.specs.declared.region_answer.RegionAnswer.{RegionAnswer}
 use Rattle.rio_requests.specs.declared.reply.Reply.{Reply}
@@ -10,7 +12,7 @@ use Rattle.rio_requests.specs.declared.reply.Reply.TheVariants.{Ok as Done, Numb
 use Rattle.vista_region.specs.Marks.{Marks, mark_of, txn_in}
 use Rattle.vista_region.specs.Regions.{region_now}
 use Rattle.vista_region.specs.declared.failures.TxnFail.{TxnFail}
-use Rattle.vista_region.specs.declared.failures.TxnFail.TheVariants.{NoTransaction, Doomed, NotAligned, OutOfRange, NotCovered, NotBlock, HeapFull, UndoFull, Fault, Stopped}
+use Rattle.vista_region.specs.declared.failures.TxnFail.TheVariants.{NoTransaction as TxnNoTransaction, Doomed as TxnDoomed, NotAligned as TxnNotAligned, OutOfRange as TxnOutOfRange, NotCovered as TxnNotCovered, NotBlock as TxnNotBlock, HeapFull as TxnHeapFull, UndoFull as TxnUndoFull, Fault, Stopped}
 use Rattle.vista_region.specs.declared.failures.GetFail.{GetFail}
 use Rattle.vista_region.specs.declared.failures.GetFail.TheVariants.{Doomed as GetDoomed, OutOfRange as GetOutOfRange, Fault as GetFault, Stopped as GetStopped, Memory as GetMemory}
 
@@ -26,20 +28,20 @@ pub record Fits (marks : Marks) (i n : ℕ) (f : RegionContent) : Type 0 where
 -- ---- refusals, by number
 
 abbrev pub refusal_of : TxnFail → Option ℕ
-refusal_of NoTransaction = Some 14
-refusal_of NotCovered = Some 15
-refusal_of UndoFull = Some 16
-refusal_of HeapFull = Some 17
-refusal_of NotBlock = Some 18
-refusal_of OutOfRange = Some 19
-refusal_of NotAligned = Some 20
-refusal_of Doomed = Some 22
+refusal_of TxnNoTransaction = Some (refusal_number NoTransaction)
+refusal_of TxnNotCovered = Some (refusal_number NotCovered)
+refusal_of TxnUndoFull = Some (refusal_number UndoFull)
+refusal_of TxnHeapFull = Some (refusal_number HeapFull)
+refusal_of TxnNotBlock = Some (refusal_number NotBlock)
+refusal_of TxnOutOfRange = Some (refusal_number OutOfRange)
+refusal_of TxnNotAligned = Some (refusal_number NotAligned)
+refusal_of TxnDoomed = Some (refusal_number Doomed)
 refusal_of (Fault k) = None
 refusal_of Stopped = None
 
 abbrev pub get_refusal_of : GetFail → Option ℕ
-get_refusal_of GetOutOfRange = Some 19
-get_refusal_of GetDoomed = Some 22
+get_refusal_of GetOutOfRange = Some (refusal_number OutOfRange)
+get_refusal_of GetDoomed = Some (refusal_number Doomed)
 get_refusal_of GetFault = None
 get_refusal_of GetStopped = None
 get_refusal_of GetMemory = None
