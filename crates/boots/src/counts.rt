@@ -4,10 +4,7 @@ ghost use Rattle.std.specs.Prelude.{◌≡◌, ◌<◌, ◌^◌, count_by, lengt
 ghost use Rattle.boots.specs.Summaries.{is_ok as ok, is_refusal as refusal, is_stopped as stopped, passing_count, reply_count};
 
 use crate::{BootEnd, BootRun};
-use rio_requests::{Reply, Request};
-
-/// The refusal number of a device fault.
-const FAULT: u8 = 30;
+use rio_requests::{FAULT_NUMBER, Reply, Request};
 
 /// How many of the boots stopped.
 pub fn stopped_boots(runs: &[BootRun]) -> u64
@@ -90,7 +87,7 @@ fn is_refusal(reply: &Reply, number: u8) -> bool
 {
     match reply {
         Reply::Err(n) => *n == number,
-        Reply::Fault(_) => number == FAULT,
+        Reply::Fault(_) => number == FAULT_NUMBER,
         _ => false,
     }
 }

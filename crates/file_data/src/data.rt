@@ -20,8 +20,9 @@ ghost use Rattle.file_tree.specs.Walks.{FileComes, ino_in};
 
 use file_tree::{Memo, inode_of, walk};
 use inode_table::Inode;
-use request_ends::{DIRECTORY, FileFail, IS_A_DIRECTORY, IS_A_REGION, REGION};
+use request_ends::{DIRECTORY, FileFail, REGION};
 use rio_base::{Ino, Octets, Volume, VolumeShape};
+use rio_model::Refusal;
 use std::alloc::Global;
 
 /// The file at a path, and its inode.
@@ -48,8 +49,8 @@ fn walk_to_file<V: Volume>(
     let i = walk(v, shape, memo, path)?;
     let inode = inode_of(v, shape, i)?;
     match inode.kind {
-        DIRECTORY => Err(FileFail::Refused(IS_A_DIRECTORY)),
-        REGION => Err(FileFail::Refused(IS_A_REGION)),
+        DIRECTORY => Err(FileFail::Refused(Refusal::IsADirectory as u8)),
+        REGION => Err(FileFail::Refused(Refusal::IsARegion as u8)),
         _ => Ok((i, inode)),
     }
 }

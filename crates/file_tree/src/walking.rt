@@ -4,6 +4,8 @@ ghost use Rattle.std.specs.Prelude.{◌≡◌, ◌<◌, ℕ, [], ◌∷◌, leng
 ghost use Rattle.rio_base.specs.Blocks.{EndsBy, Looks};
 ghost use Rattle.rio_base.specs.Shapes.{HasShape};
 ghost use Rattle.rio_base.specs.Volume.{Goes};
+ghost use Rattle.rio_model.specs.Refusals.{refusal_number};
+ghost use Rattle.rio_model.specs.declared.refusal.Refusal.TheVariants.{NotADirectory, NotFound};
 ghost use Rattle.rio_model.specs.States.{last_of};
 ghost use Rattle.rio_model.specs.Held.{held_of};
 ghost use Rattle.rio_model.specs.Paths.{IsPath, names_of, walk as walk_of, walk_to_dir as walk_to_dir_of};
@@ -22,8 +24,9 @@ use crate::finding::look_up;
 use crate::memo::Memo;
 use crate::paths::{cut_last, name_end};
 use inode_table::{Inode, read_inode};
-use request_ends::{DIRECTORY, EXISTS, FileFail, NOT_A_DIRECTORY, NOT_FOUND};
+use request_ends::{DIRECTORY, FileFail};
 use rio_base::{Blocks, Ino, Volume, VolumeShape};
+use rio_model::Refusal;
 
 /// The root directory.
 const ROOT: Ino = Ino(1);
@@ -74,7 +77,7 @@ fn must_be_dir<V: Blocks>(v: &mut V, shape: &VolumeShape, i: Ino) -> Result<Inod
     requires used { 0 < (held_of shape.now (V.seen v.old).words i.0).kind }
     ensures ok { OnOk result ((held_of shape.now (V.seen v.old).words i.0).kind ≡ 1) }
     ensures inode { IfOk result (IsInode (V.seen v.old).words i.0) }
-    ensures refused { Refuses result 4 ((held_of shape.now (V.seen v.old).words i.0).kind ≡ 1 → ⊥) }
+    ensures refused { Refuses result (refusal_number NotADirectory) ((held_of shape.now (V.seen v.old).words i.0).kind ≡ 1 → ⊥) }
     ensures looks { Looks (V.seen v.old) (V.seen v.new) }
     ensures shape { HasShape shape.now (V.seen v.new) }
     ensures named { AllNamed (volume_layout shape.now (V.seen v.old).words) (V.seen v.new) }
@@ -84,7 +87,7 @@ fn must_be_dir<V: Blocks>(v: &mut V, shape: &VolumeShape, i: Ino) -> Result<Inod
 {
     let inode = read_inode(v, shape, i)?;
     if inode.kind != DIRECTORY {
-        return Err(FileFail::Refused(NOT_A_DIRECTORY));
+        return Err(FileFail::Refused(Refusal::NotADirectory as u8));
     }
     Ok(inode)
 }
@@ -106,7 +109,7 @@ fn row_of<V: Blocks>(
     requires dir { (held_of shape.now (V.seen v.old).words dir.0).kind ≡ 1 }
     requires inode { IsInode (V.seen v.old).words dir.0 inode.now }
     ensures row { IfOk result (λ row. IsEntry (held_of shape.now (V.seen v.old).words dir.0) row.1 name.now row.0.0) }
-    ensures refused { Refuses result 2 ((n : ℕ) → HasRow (held_of shape.now (V.seen v.old).words dir.0) name.now n → ⊥) }
+    ensures refused { Refuses result (refusal_number NotFound) ((n : ℕ) → HasRow (held_of shape.now (V.seen v.old).words dir.0) name.now n → ⊥) }
     ensures in_step { InStep shape.now (V.seen v.old).words memo.new }
     ensures looks { Looks (V.seen v.old) (V.seen v.new) }
     ensures shape { HasShape shape.now (V.seen v.new) }
@@ -117,7 +120,7 @@ fn row_of<V: Blocks>(
 {
     match look_up(v, shape, memo, dir, inode, name)? {
         Some(row) => Ok(row),
-        None => Err(FileFail::Refused(NOT_FOUND)),
+        None => Err(FileFail::Refused(Refusal::NotFound as u8)),
     }
 }
 
@@ -284,7 +287,7 @@ pub fn dir_without<V: Volume>(
 {
     let (dir, inode) = dir_at(v, shape, memo, path)?;
     if look_up(v, shape, memo, dir, &inode, name)?.is_some() {
-        return Err(FileFail::Refused(EXISTS));
+        return Err(FileFail::Refused(Refusal::Exists as u8));
     }
     Ok(dir)
 }

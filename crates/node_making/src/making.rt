@@ -21,8 +21,9 @@ use crate::new_nodes::{NewNode, make_new};
 use directories::plan_add;
 use file_tree::{Memo, cut_last, dir_without, is_root};
 use node_updates::{NodeChange, commit_planned, node_made};
-use request_ends::{DIRECTORY, EXISTS, FILE, FileFail};
+use request_ends::{DIRECTORY, FILE, FileFail};
 use rio_base::{Ino, Volume, VolumeShape};
+use rio_model::Refusal;
 use std::alloc::Global;
 
 /// Makes a node without bytes, in inode `i`, and its row in one update.
@@ -76,7 +77,7 @@ fn make<V: Volume>(
     ensures sound { V.sound v.new }
 {
     if is_root(path) {
-        return Err(FileFail::Refused(EXISTS));
+        return Err(FileFail::Refused(Refusal::Exists as u8));
     }
     let (front, name) = cut_last(path);
     let dir = dir_without(v, shape, memo, front, name)?;

@@ -23,8 +23,9 @@ use crate::making::make_row;
 use crate::regions::{RegionSizes, make_region_row};
 use file_tree::Memo;
 use inode_table::least_free_past_full;
-use request_ends::{FileFail, NO_INODE};
+use request_ends::FileFail;
 use rio_base::{Ino, Volume, VolumeShape};
+use rio_model::Refusal;
 use std::alloc::Global;
 
 /// What a new node is to be.
@@ -91,7 +92,7 @@ pub fn make_new<V: Volume>(
     ensures sound { V.sound v.new }
 {
     let Some(i) = least_free_past_full(v, shape, &mut memo.full)? else {
-        return Err(FileFail::Refused(NO_INODE));
+        return Err(FileFail::Refused(Refusal::NoInode as u8));
     };
     make_node(alloc, v, shape, dir, name, i, node)?;
     memo.made(dir, name, i);

@@ -31,11 +31,12 @@ use file_tree::{Memo, cut_last, dir_without, is_root, node_inode, walk};
 use inode_table::Inode;
 use node_pages::{SizeFail, plan_size};
 use node_updates::{NodeChange, commit_planned, empty_inode, node_sized};
-use request_ends::{EXISTS, FileFail, NOT_A_REGION, REGION, TOO_LARGE};
+use request_ends::{FileFail, REGION};
 use rio_base::{
     Block, BlockList, Ino, PAGE_BYTES, PageName, REGION_MAGIC, RunFail, VolFail, Volume,
     VolumeShape,
 };
+use rio_model::Refusal;
 use std::alloc::Global;
 
 /// Pages of the largest node.
@@ -197,12 +198,12 @@ pub fn make_region<V: Volume>(
     ensures sound { V.sound v.new }
 {
     if is_root(path) {
-        return Err(FileFail::Refused(EXISTS));
+        return Err(FileFail::Refused(Refusal::Exists as u8));
     }
     let (front, name) = cut_last(path);
     let dir = dir_without(v, shape, memo, front, name)?;
     let Some(sizes) = region_sizes(data_pages, undo_pages) else {
-        return Err(FileFail::Refused(TOO_LARGE));
+        return Err(FileFail::Refused(Refusal::TooLarge as u8));
     };
     make_new(alloc, v, shape, memo, dir, name, NewNode::Sized(sizes))
 }
@@ -234,7 +235,7 @@ pub fn region_at<V: Volume>(
     let i = walk(v, shape, memo, path)?;
     let inode = node_inode(v, shape, i)?;
     if inode.kind != REGION {
-        return Err(FileFail::Refused(NOT_A_REGION));
+        return Err(FileFail::Refused(Refusal::NotARegion as u8));
     }
     Ok((i, inode))
 }

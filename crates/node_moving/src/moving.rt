@@ -24,8 +24,9 @@ use directories::{plan_add, plan_remove, plan_replace, plan_set};
 use file_tree::{Row, inode_of};
 use node_pages::blocks_of;
 use node_updates::{NodeChange, commit_planned, node_gone};
-use request_ends::{BUSY, DIRECTORY, EXISTS, FileFail};
+use request_ends::{DIRECTORY, FileFail};
 use rio_base::{Ino, InoList, Volume, VolumeShape};
+use rio_model::Refusal;
 use std::alloc::Global;
 
 /// Gives a row another name in its directory, where the name is new.
@@ -204,13 +205,13 @@ pub fn replace_row<V: Volume>(
     let moved = inode_of(v, shape, from.ino)?;
     let gone = inode_of(v, shape, to.ino)?;
     if moved.kind == DIRECTORY {
-        return Err(FileFail::Refused(EXISTS));
+        return Err(FileFail::Refused(Refusal::Exists as u8));
     }
     if gone.kind == DIRECTORY {
-        return Err(FileFail::Refused(EXISTS));
+        return Err(FileFail::Refused(Refusal::Exists as u8));
     }
     if is_open(busy, to.ino, &gone) {
-        return Err(FileFail::Refused(BUSY));
+        return Err(FileFail::Refused(Refusal::Busy as u8));
     }
     if from.dir.0 == to.dir.0 {
         replace_within(alloc, v, shape, from, to)

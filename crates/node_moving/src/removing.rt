@@ -23,10 +23,9 @@ use file_tree::{Memo, Row, cut_last, is_root, node_inode, walk_to_row};
 use inode_table::Inode;
 use node_pages::blocks_of;
 use node_updates::{NodeChange, commit_planned, node_gone};
-use request_ends::{
-    BUSY, DIRECTORY, FileFail, IS_A_DIRECTORY, IS_ROOT, NOT_A_DIRECTORY, NOT_EMPTY, REGION,
-};
+use request_ends::{DIRECTORY, FileFail, REGION};
 use rio_base::{Ino, InoList, Volume, VolumeShape};
+use rio_model::Refusal;
 use std::alloc::Global;
 
 /// Whether an inode is one of these.
@@ -123,15 +122,15 @@ pub fn unlink<V: Volume>(
     ensures sound { V.sound v.new }
 {
     if is_root(path) {
-        return Err(FileFail::Refused(IS_ROOT));
+        return Err(FileFail::Refused(Refusal::IsRoot as u8));
     }
     let row = walk_to_row(v, shape, memo, path)?;
     let inode = node_inode(v, shape, row.ino)?;
     if inode.kind == DIRECTORY {
-        return Err(FileFail::Refused(IS_A_DIRECTORY));
+        return Err(FileFail::Refused(Refusal::IsADirectory as u8));
     }
     if is_open(busy, row.ino, &inode) {
-        return Err(FileFail::Refused(BUSY));
+        return Err(FileFail::Refused(Refusal::Busy as u8));
     }
     let (_, name) = cut_last(path);
     take_row(alloc, v, shape, memo, row, name)
@@ -157,15 +156,15 @@ pub fn rmdir<V: Volume>(
     ensures sound { V.sound v.new }
 {
     if is_root(path) {
-        return Err(FileFail::Refused(IS_ROOT));
+        return Err(FileFail::Refused(Refusal::IsRoot as u8));
     }
     let row = walk_to_row(v, shape, memo, path)?;
     let inode = node_inode(v, shape, row.ino)?;
     if inode.kind != DIRECTORY {
-        return Err(FileFail::Refused(NOT_A_DIRECTORY));
+        return Err(FileFail::Refused(Refusal::NotADirectory as u8));
     }
     if inode.size != 0 {
-        return Err(FileFail::Refused(NOT_EMPTY));
+        return Err(FileFail::Refused(Refusal::NotEmpty as u8));
     }
     let (_, name) = cut_last(path);
     take_row(alloc, v, shape, memo, row, name)

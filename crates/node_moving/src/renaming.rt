@@ -23,8 +23,9 @@ use crate::moving::{move_row, replace_row};
 use file_tree::{
     Memo, Row, cut_last, is_below, is_root, look_up_in, walk, walk_to_dir, walk_to_row,
 };
-use request_ends::{FileFail, INSIDE_ITSELF, IS_ROOT};
+use request_ends::FileFail;
 use rio_base::{Ino, InoList, Volume, VolumeShape};
+use rio_model::Refusal;
 use std::alloc::Global;
 
 /// Moves a row to a name that its directory has not, and tells so.
@@ -165,15 +166,15 @@ pub fn rename<V: Volume>(
 {
     walk(v, shape, memo, path)?;
     if is_root(to) {
-        return Err(FileFail::Refused(IS_ROOT));
+        return Err(FileFail::Refused(Refusal::IsRoot as u8));
     }
     let (front, name) = cut_last(to);
     let dir = walk_to_dir(v, shape, memo, front)?;
     if is_root(path) {
-        return Err(FileFail::Refused(IS_ROOT));
+        return Err(FileFail::Refused(Refusal::IsRoot as u8));
     }
     if is_below(to, path) {
-        return Err(FileFail::Refused(INSIDE_ITSELF));
+        return Err(FileFail::Refused(Refusal::InsideItself as u8));
     }
     let from = walk_to_row(v, shape, memo, path)?;
     let (_, old) = cut_last(path);

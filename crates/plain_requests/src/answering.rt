@@ -20,7 +20,7 @@ mod room;
 mod transactions;
 
 use rio_base::Ino;
-use rio_model::{Node, NodeRow, State};
+use rio_model::{Node, NodeRow, Refusal, State};
 use rio_requests::{Answered, Reply, Request};
 use std::alloc::{AllocError, Global};
 
@@ -71,7 +71,7 @@ fn wild(s: &State, at: u64) -> Result<Answered, AllocError>
     ensures { IfOk result (λ a. a ≡ wild_of s.now at) }
 {
     if at >= 512 * s.pages as u64 {
-        return refused(s, 19);
+        return refused(s, Refusal::OutOfRange as u8);
     }
     let kept = s.pages.saturating_sub(s.scratch);
     if at < 512 * kept as u64 {
@@ -86,7 +86,7 @@ fn arm(s: &State, at: u64) -> Result<Answered, AllocError>
     ensures { IfOk result (λ a. a ≡ arm_of s.now at) }
 {
     if at >= 512 * s.pages as u64 {
-        return refused(s, 19);
+        return refused(s, Refusal::OutOfRange as u8);
     }
     unchanged(s, Reply::Ok)
 }

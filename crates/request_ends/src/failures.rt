@@ -5,13 +5,14 @@ ghost use Rattle.request_ends.specs.Failures.{fail_of_read, fail_of_size, fail_o
 
 use node_pages::{SizeFail, WriteFail};
 use rio_base::{ReadFail, Stopped, VolFail};
+use rio_model::Refusal;
 use std::alloc::{AllocError, AllocFailed};
 use thiserror::Error;
 
 /// Why a request on files was not done.
 #[derive(Clone, Copy, Debug, PartialEq, Eq, Error)]
 pub enum FileFail {
-    /// Refused, by the number of the reply.
+    /// Refused, by the number of a [`Refusal`].
     #[error("refused: {0}")]
     Refused(u8),
     /// The disk failed in this call, after so many bytes were done. They are 0 of every call but `write`.
@@ -24,45 +25,6 @@ pub enum FileFail {
     #[error("out of memory")]
     Memory,
 }
-
-/// A name is missing.
-pub const NOT_FOUND: u8 = 2;
-
-/// The name is there already.
-pub const EXISTS: u8 = 3;
-
-/// A step through a node that is no directory.
-pub const NOT_A_DIRECTORY: u8 = 4;
-
-/// A directory where none may be.
-pub const IS_A_DIRECTORY: u8 = 5;
-
-/// The directory has names.
-pub const NOT_EMPTY: u8 = 6;
-
-/// A region where a file must be.
-pub const IS_A_REGION: u8 = 7;
-
-/// No region where one must be.
-pub const NOT_A_REGION: u8 = 8;
-
-/// The root directory, which has no name.
-pub const IS_ROOT: u8 = 9;
-
-/// Larger than any file.
-pub const TOO_LARGE: u8 = 10;
-
-/// Fewer blocks are free than are wanted.
-pub const NO_SPACE: u8 = 11;
-
-/// No inode is free.
-pub const NO_INODE: u8 = 12;
-
-/// A region with an open transaction.
-pub const BUSY: u8 = 13;
-
-/// The new path lies below the old one.
-pub const INSIDE_ITSELF: u8 = 21;
 
 impl From<VolFail> for FileFail {
     ghost from_gives = { λ fail made. made ≡ fail_of_vol fail };
@@ -102,8 +64,8 @@ impl From<SizeFail> for FileFail {
 
     fn from(fail: SizeFail) -> FileFail {
         match fail {
-            SizeFail::NoSpace => FileFail::Refused(NO_SPACE),
-            SizeFail::TooLarge => FileFail::Refused(TOO_LARGE),
+            SizeFail::NoSpace => FileFail::Refused(Refusal::NoSpace as u8),
+            SizeFail::TooLarge => FileFail::Refused(Refusal::TooLarge as u8),
             SizeFail::Fault => FileFail::Fault(0),
             SizeFail::Stopped => FileFail::Stopped,
             SizeFail::Memory => FileFail::Memory,
@@ -116,8 +78,8 @@ impl From<WriteFail> for FileFail {
 
     fn from(fail: WriteFail) -> FileFail {
         match fail {
-            WriteFail::NoSpace => FileFail::Refused(NO_SPACE),
-            WriteFail::TooLarge => FileFail::Refused(TOO_LARGE),
+            WriteFail::NoSpace => FileFail::Refused(Refusal::NoSpace as u8),
+            WriteFail::TooLarge => FileFail::Refused(Refusal::TooLarge as u8),
             WriteFail::Fault { done } => FileFail::Fault(done),
             WriteFail::Stopped => FileFail::Stopped,
             WriteFail::Memory => FileFail::Memory,

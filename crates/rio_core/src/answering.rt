@@ -9,15 +9,13 @@ ghost use Rattle.file_tree.specs.Memos.{InStep};
 ghost use Rattle.rio_core.specs.Lines.{ByName};
 ghost use Rattle.rio_core.specs.Serving.{RequestEnds, Serves, TellsFault};
 
-use crate::replies::{
-    BAD_REQUEST, NO_MEMORY, bytes_reply, count_reply, done_reply, ino_reply, names_reply,
-    stat_reply,
-};
+use crate::replies::{bytes_reply, count_reply, done_reply, ino_reply, names_reply, stat_reply};
 use file_data::{read, truncate, write};
 use file_tree::Memo;
 use node_making::{create, list, make_region, mkdir, stat};
 use node_moving::{rename, rmdir, unlink};
 use rio_base::{Stopped, Volume, VolumeShape};
+use rio_model::Refusal;
 use rio_requests::{Reply, Request};
 use std::alloc::Global;
 use vista_region::OpenTable;
@@ -103,7 +101,7 @@ fn answer_by_name<V: Volume>(
     match request {
         Request::Unlink { path } => match table.open_list(alloc) {
             Ok(busy) => done_reply(unlink(alloc, v, shape, memo, path.as_slice(), &busy)),
-            Err(_) => Ok(Reply::Err(NO_MEMORY)),
+            Err(_) => Ok(Reply::Err(Refusal::NoMemory as u8)),
         },
         Request::Rmdir { path } => done_reply(rmdir(alloc, v, shape, memo, path.as_slice())),
         Request::Rename { path, to } => match table.open_list(alloc) {
@@ -116,11 +114,11 @@ fn answer_by_name<V: Volume>(
                 to.as_slice(),
                 &busy,
             )),
-            Err(_) => Ok(Reply::Err(NO_MEMORY)),
+            Err(_) => Ok(Reply::Err(Refusal::NoMemory as u8)),
         },
         Request::List { path } => names_reply(list(alloc, v, shape, memo, path.as_slice())),
         // Not reached: other requests are answered elsewhere.
-        _ => Ok(Reply::Err(BAD_REQUEST)),
+        _ => Ok(Reply::Err(Refusal::BadRequest as u8)),
     }
 }
 

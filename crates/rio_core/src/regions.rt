@@ -15,11 +15,12 @@ ghost use Rattle.rio_core.specs.CallEnds.{CalledOn, IsAt, words_at};
 ghost use Rattle.rio_core.specs.Lines.{Within};
 ghost use Rattle.rio_core.specs.Serving.{RequestEnds, Serves, TellsFault};
 
-use crate::replies::{BAD_REQUEST, begin_reply, fail_reply, get_reply, number_reply, txn_reply};
+use crate::replies::{begin_reply, fail_reply, get_reply, number_reply, txn_reply};
 use file_tree::Memo;
 use node_making::stand_at;
 use region_view::RegionView;
 use rio_base::{Stopped, Volume};
+use rio_model::Refusal;
 use rio_requests::{Reply, Request};
 use std::alloc::Global;
 use vista_region::OpenTable;
@@ -111,6 +112,6 @@ fn answer_within<V: Volume>(
         Request::Alloc { units, .. } => number_reply(table.allocate(view, i, *units)),
         Request::Free { at, .. } => txn_reply(table.release(view, i, *at)),
         // Not reached: other requests are answered elsewhere.
-        _ => Ok(Reply::Err(BAD_REQUEST)),
+        _ => Ok(Reply::Err(Refusal::BadRequest as u8)),
     }
 }

@@ -13,15 +13,10 @@ ghost use Rattle.vista_region.specs.declared.failures.TxnFail.TheVariants.{Fault
 use name_list::NameList;
 use request_ends::FileFail;
 use rio_base::{Ino, InoList, Octets, Stopped};
+use rio_model::Refusal;
 use rio_requests::Reply;
 use std::alloc::AllocError;
 use vista_region::{BeginFail, GetFail, TxnFail};
-
-/// The number of the reply to what is not served.
-pub const BAD_REQUEST: u8 = 1;
-
-/// The number of the reply where there was no memory for a request.
-pub const NO_MEMORY: u8 = 31;
 
 // ---- on files
 
@@ -35,7 +30,7 @@ pub fn fail_reply(fail: FileFail) -> Result<Reply, Stopped>
     match fail {
         FileFail::Refused(number) => Ok(Reply::Err(number)),
         FileFail::Fault(done) => Ok(Reply::Fault(done)),
-        FileFail::Memory => Ok(Reply::Err(NO_MEMORY)),
+        FileFail::Memory => Ok(Reply::Err(Refusal::NoMemory as u8)),
         FileFail::Stopped => Err(Stopped),
     }
 }
@@ -108,7 +103,7 @@ pub fn txns_reply(list: Result<InoList, AllocError>) -> Reply
 {
     match list {
         Ok(inos) => Reply::Inos(inos),
-        Err(_) => Reply::Err(NO_MEMORY),
+        Err(_) => Reply::Err(Refusal::NoMemory as u8),
     }
 }
 
@@ -120,14 +115,14 @@ fn txn_fail_reply(fail: TxnFail) -> Result<Reply, Stopped>
     ensures stopped { fail ≡ TxnFail.Stopped → IsErr result }
 {
     match fail {
-        TxnFail::NoTransaction => Ok(Reply::Err(14)),
-        TxnFail::NotCovered => Ok(Reply::Err(15)),
-        TxnFail::UndoFull => Ok(Reply::Err(16)),
-        TxnFail::HeapFull => Ok(Reply::Err(17)),
-        TxnFail::NotBlock => Ok(Reply::Err(18)),
-        TxnFail::OutOfRange => Ok(Reply::Err(19)),
-        TxnFail::NotAligned => Ok(Reply::Err(20)),
-        TxnFail::Doomed => Ok(Reply::Err(22)),
+        TxnFail::NoTransaction => Ok(Reply::Err(Refusal::NoTransaction as u8)),
+        TxnFail::NotCovered => Ok(Reply::Err(Refusal::NotCovered as u8)),
+        TxnFail::UndoFull => Ok(Reply::Err(Refusal::UndoFull as u8)),
+        TxnFail::HeapFull => Ok(Reply::Err(Refusal::HeapFull as u8)),
+        TxnFail::NotBlock => Ok(Reply::Err(Refusal::NotBlock as u8)),
+        TxnFail::OutOfRange => Ok(Reply::Err(Refusal::OutOfRange as u8)),
+        TxnFail::NotAligned => Ok(Reply::Err(Refusal::NotAligned as u8)),
+        TxnFail::Doomed => Ok(Reply::Err(Refusal::Doomed as u8)),
         TxnFail::Fault(done) => Ok(Reply::Fault(done)),
         TxnFail::Stopped => Err(Stopped),
     }
@@ -168,9 +163,9 @@ pub fn get_reply(answer: Result<Octets, GetFail>) -> Result<Reply, Stopped>
 {
     match answer {
         Ok(bytes) => Ok(Reply::Bytes(bytes)),
-        Err(GetFail::OutOfRange) => Ok(Reply::Err(19)),
-        Err(GetFail::Doomed) => Ok(Reply::Err(22)),
-        Err(GetFail::Memory) => Ok(Reply::Err(NO_MEMORY)),
+        Err(GetFail::OutOfRange) => Ok(Reply::Err(Refusal::OutOfRange as u8)),
+        Err(GetFail::Doomed) => Ok(Reply::Err(Refusal::Doomed as u8)),
+        Err(GetFail::Memory) => Ok(Reply::Err(Refusal::NoMemory as u8)),
         Err(GetFail::Fault) => Ok(Reply::Fault(0)),
         Err(GetFail::Stopped) => Err(Stopped),
     }
@@ -183,7 +178,7 @@ pub fn begin_reply(answer: Result<(), BeginFail>) -> Reply
 {
     match answer {
         Ok(()) => Reply::Ok,
-        Err(BeginFail::Busy) => Reply::Err(13),
-        Err(BeginFail::Memory) => Reply::Err(NO_MEMORY),
+        Err(BeginFail::Busy) => Reply::Err(Refusal::Busy as u8),
+        Err(BeginFail::Memory) => Reply::Err(Refusal::NoMemory as u8),
     }
 }

@@ -5,10 +5,12 @@ ghost use Rattle.rio_base.specs.Machine.{after_wild};
 ghost use Rattle.rio_base.specs.declared.wild.Wild.TheVariants.{Changed, Trapped};
 ghost use Rattle.rio_base.specs.Blocks.{EndsBy, Halts};
 ghost use Rattle.rio_base.specs.Volume.{Goes, Quiet, Runs};
+ghost use Rattle.rio_requests.specs.Answer.{refusal_reply};
 ghost use Rattle.rio_requests.specs.Requests.{IsRequest, OnFiles};
 ghost use Rattle.rio_requests.specs.declared.request.Request.TheVariants.{Arm, Flush, Sync, Txns, Wild};
 ghost use Rattle.rio_requests.specs.Went.{NoFlush, StoppedOn, Went};
-ghost use Rattle.rio_requests.specs.declared.reply.Reply.TheVariants.{Err as Refused, Ok as Done};
+ghost use Rattle.rio_requests.specs.declared.reply.Reply.TheVariants.{Ok as Done};
+ghost use Rattle.rio_model.specs.declared.refusal.Refusal.TheVariants.{OutOfRange};
 ghost use Rattle.rio_model.specs.declared.state.State.{State};
 ghost use Rattle.rio_model.specs.Paths.{IsPath};
 ghost use Rattle.rio_requests.specs.Crash.{crashed};
@@ -26,12 +28,10 @@ use file_tree::Memo;
 use page_cache::PageCache;
 use region_view::RegionView;
 use rio_base::{Blocks, Machine, Stopped, VolFail, Volume, VolumeShape, Wild as StoreEnd, WordAt};
+use rio_model::Refusal;
 use rio_requests::{Reply, Request};
 use std::alloc::{AllocError, Global};
 use vista_region::OpenTable;
-
-/// The number of the reply to a place that memory does not have.
-const OUT_OF_RANGE: u8 = 19;
 
 /// A cache that holds a state, seen through a view of one region's words at a time, the table of the open transactions, and what is
 /// held in memory for quicker answers, which is always in step with the cache's blocks.
@@ -100,8 +100,8 @@ pub fn answer_one<M: Machine>(
     ensures struck { (at value : ℕ) → request.now ≡ Wild at value → result ≡ Ok Done → (M.contents core.new.view.v.machine ≡ M.contents core.old.view.v.machine) × (M.run core.new.view.v.machine ≡ after_wild Changed at value (M.run core.old.view.v.machine)) }
     ensures trapped { (at value : ℕ) → request.now ≡ Wild at value → OnErr result ((M.contents core.new.view.v.machine ≡ M.contents core.old.view.v.machine) × (M.run core.new.view.v.machine ≡ after_wild Trapped at value (M.run core.old.view.v.machine))) }
     ensures armed { (step at value : ℕ) → request.now ≡ Arm step at value → result ≡ Ok Done → (M.contents core.new.view.v.machine ≡ M.contents core.old.view.v.machine) × (M.run core.new.view.v.machine ≡ record (M.run core.old.view.v.machine) { armed = Some at; armed_left = step; armed_value = value }) }
-    ensures unstruck { (at value : ℕ) → request.now ≡ Wild at value → result ≡ Ok (Refused 19) → core.new ≡ core.old }
-    ensures unarmed { (step at value : ℕ) → request.now ≡ Arm step at value → result ≡ Ok (Refused 19) → core.new ≡ core.old }
+    ensures unstruck { (at value : ℕ) → request.now ≡ Wild at value → result ≡ Ok (refusal_reply OutOfRange) → core.new ≡ core.old }
+    ensures unarmed { (step at value : ℕ) → request.now ≡ Arm step at value → result ≡ Ok (refusal_reply OutOfRange) → core.new ≡ core.old }
     ensures quiet { NoFlush request.now → Quiet (⟦<PageCache<M> as Volume>⟧.below core.old.view.v) (⟦<PageCache<M> as Volume>⟧.below core.new.view.v) }
     ensures ends { EndsBy (⟦<PageCache<M> as Blocks>⟧.health core.old.view.v) (⟦<PageCache<M> as Blocks>⟧.health core.new.view.v) (TellsFault result) (IsErr result) }
     ensures sound { ⟦<PageCache<M> as Blocks>⟧.sound core.new.view.v }
@@ -228,7 +228,7 @@ fn strike<M: Machine>(core: &mut Core<M>, at: u64, value: u64) -> Result<Reply, 
     ensures answered { (s : State) → Holds core.old.view.shape (⟦<PageCache<M> as Blocks>⟧.seen core.old.view.v) (⟦<PageCache<M> as Volume>⟧.kept core.old.view.v) (⟦<PageCache<M> as Blocks>⟧.health core.old.view.v) (⟦<PageCache<M> as Volume>⟧.below core.old.view.v) core.old.table s → Answering (Holds core.new.view.shape (⟦<PageCache<M> as Blocks>⟧.seen core.new.view.v) (⟦<PageCache<M> as Volume>⟧.kept core.new.view.v) (⟦<PageCache<M> as Blocks>⟧.health core.new.view.v) (⟦<PageCache<M> as Volume>⟧.below core.new.view.v) core.new.table) (λ t. Stands core.new.view.shape (⟦<PageCache<M> as Blocks>⟧.seen core.new.view.v) (⟦<PageCache<M> as Volume>⟧.kept core.new.view.v) (crashed t)) s (Wild at value) result }
     ensures went { IfOk result (λ reply. Went (Some (Wild at value) ∷ []) (reply ∷ []) (⟦<PageCache<M> as Blocks>⟧.health core.old.view.v) (⟦<PageCache<M> as Volume>⟧.below core.old.view.v) (⟦<PageCache<M> as Blocks>⟧.health core.new.view.v) (⟦<PageCache<M> as Volume>⟧.below core.new.view.v)) }
     ensures stopped_on { OnErr result (StoppedOn (Wild at value) (⟦<PageCache<M> as Blocks>⟧.health core.old.view.v) (⟦<PageCache<M> as Volume>⟧.below core.old.view.v) (⟦<PageCache<M> as Blocks>⟧.health core.new.view.v) (⟦<PageCache<M> as Volume>⟧.below core.new.view.v)) }
-    ensures unstruck { result ≡ Ok (Refused 19) → core.new ≡ core.old }
+    ensures unstruck { result ≡ Ok (refusal_reply OutOfRange) → core.new ≡ core.old }
     ensures trapped { OnErr result ((M.contents core.new.view.v.machine ≡ M.contents core.old.view.v.machine) × (M.run core.new.view.v.machine ≡ after_wild Trapped at value (M.run core.old.view.v.machine))) }
     ensures struck { result ≡ Ok Done → (M.contents core.new.view.v.machine ≡ M.contents core.old.view.v.machine) × (M.run core.new.view.v.machine ≡ after_wild Changed at value (M.run core.old.view.v.machine)) }
     ensures quiet { Quiet (⟦<PageCache<M> as Volume>⟧.below core.old.view.v) (⟦<PageCache<M> as Volume>⟧.below core.new.view.v) }
@@ -236,7 +236,7 @@ fn strike<M: Machine>(core: &mut Core<M>, at: u64, value: u64) -> Result<Reply, 
     ensures sound { ⟦<PageCache<M> as Blocks>⟧.sound core.new.view.v }
 {
     let Some(place) = place_in(&core.view.v, at) else {
-        return Ok(Reply::Err(OUT_OF_RANGE));
+        return Ok(Reply::Err(Refusal::OutOfRange as u8));
     };
     match core.view.v.wild(place, value) {
         StoreEnd::Trapped => Err(Stopped),
@@ -252,14 +252,14 @@ fn arm_store<M: Machine>(core: &mut Core<M>, step: u64, at: u64, value: u64) -> 
     requires holds { (s : State) × Holds core.old.view.shape (⟦<PageCache<M> as Blocks>⟧.seen core.old.view.v) (⟦<PageCache<M> as Volume>⟧.kept core.old.view.v) (⟦<PageCache<M> as Blocks>⟧.health core.old.view.v) (⟦<PageCache<M> as Volume>⟧.below core.old.view.v) core.old.table s }
     ensures answered { (s : State) → Holds core.old.view.shape (⟦<PageCache<M> as Blocks>⟧.seen core.old.view.v) (⟦<PageCache<M> as Volume>⟧.kept core.old.view.v) (⟦<PageCache<M> as Blocks>⟧.health core.old.view.v) (⟦<PageCache<M> as Volume>⟧.below core.old.view.v) core.old.table s → Answering (Holds core.new.view.shape (⟦<PageCache<M> as Blocks>⟧.seen core.new.view.v) (⟦<PageCache<M> as Volume>⟧.kept core.new.view.v) (⟦<PageCache<M> as Blocks>⟧.health core.new.view.v) (⟦<PageCache<M> as Volume>⟧.below core.new.view.v) core.new.table) (λ t. Stands core.new.view.shape (⟦<PageCache<M> as Blocks>⟧.seen core.new.view.v) (⟦<PageCache<M> as Volume>⟧.kept core.new.view.v) (crashed t)) s (Arm step at value) (Ok result) }
     ensures went { Went (Some (Arm step at value) ∷ []) (result ∷ []) (⟦<PageCache<M> as Blocks>⟧.health core.old.view.v) (⟦<PageCache<M> as Volume>⟧.below core.old.view.v) (⟦<PageCache<M> as Blocks>⟧.health core.new.view.v) (⟦<PageCache<M> as Volume>⟧.below core.new.view.v) }
-    ensures unarmed { result ≡ Refused 19 → core.new ≡ core.old }
+    ensures unarmed { result ≡ refusal_reply OutOfRange → core.new ≡ core.old }
     ensures armed { result ≡ Done → (M.contents core.new.view.v.machine ≡ M.contents core.old.view.v.machine) × (M.run core.new.view.v.machine ≡ record (M.run core.old.view.v.machine) { armed = Some at; armed_left = step; armed_value = value }) }
     ensures quiet { Quiet (⟦<PageCache<M> as Volume>⟧.below core.old.view.v) (⟦<PageCache<M> as Volume>⟧.below core.new.view.v) }
     ensures health { ⟦<PageCache<M> as Blocks>⟧.health core.new.view.v ≡ ⟦<PageCache<M> as Blocks>⟧.health core.old.view.v }
     ensures sound { ⟦<PageCache<M> as Blocks>⟧.sound core.new.view.v }
 {
     let Some(place) = place_in(&core.view.v, at) else {
-        return Reply::Err(OUT_OF_RANGE);
+        return Reply::Err(Refusal::OutOfRange as u8);
     };
     core.view.v.arm(step, place, value);
     Reply::Ok

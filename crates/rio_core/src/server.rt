@@ -8,12 +8,12 @@ ghost use Rattle.rio_core.specs.LineLaws.{core_calm, core_less, core_runs, core_
 ghost use Rattle.rio_core.specs.Lines.{IsCalm, core_protocol, effect_of};
 ghost use Rattle.rio_core.specs.Serving.{Holds};
 
-use crate::replies::BAD_REQUEST;
 use crate::running_core::{Core, answer_one};
 use line_loop::{Effect, LineServer};
 use page_cache::PageCache;
 use request_codec::{Spare, parse_line_reusing, put_reply, write_reply_in};
 use rio_base::{Blocks, Failed, Machine, Sink, Stopped, Volume};
+use rio_model::Refusal;
 use rio_requests::{Reply, Request};
 use std::alloc::{AllocError, Global};
 
@@ -88,7 +88,7 @@ impl<M: Machine> LineServer for Core<M> {
     }
 
     fn refusal() -> Reply {
-        Reply::Err(BAD_REQUEST)
+        Reply::Err(Refusal::BadRequest as u8)
     }
 
     fn write_reply<K: Sink>(reply: &Reply, room: &mut [u8], sink: &mut K) -> Result<(), Failed> {

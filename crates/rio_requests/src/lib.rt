@@ -8,5 +8,5 @@ mod request;
 
 pub use answered::Answered;
 pub use region_answer::RegionAnswer;
-pub use reply::Reply;
+pub use reply::{FAULT_NUMBER, Reply};
 pub use request::Request;

@@ -3,6 +3,9 @@
 use name_list::NameList;
 use rio_base::{Ino, InoList, Octets};
 
+/// The number in the reply to a device fault. No refusal has it.
+pub const FAULT_NUMBER: u8 = 30;
+
 /// The reply to a request.
 #[derive(Debug, Drop)]
 pub enum Reply {

@@ -4,7 +4,7 @@ use crate::served::Sizes;
 use plain_requests::answer;
 use request_codec::{parse_line, write_reply};
 use rio_base::{Ino, Octets, VolumeShape};
-use rio_model::{NameRows, Node, NodeRow, NodeRows, State, TxnList};
+use rio_model::{NameRows, Node, NodeRow, NodeRows, Refusal, State, TxnList};
 use rio_requests::{Answered, Reply, Request};
 use std::alloc::{AllocError, Global};
 use test_objects::MemSink;
@@ -172,7 +172,7 @@ impl Plain {
 
     /// Refuses what is not served.
     fn refuse(&self, replies: &mut Vec<u8>) -> Result<(), AllocError> {
-        let text = text_of(self.alloc, &Reply::Err(1))?;
+        let text = text_of(self.alloc, &Reply::Err(Refusal::BadRequest as u8))?;
         replies.extend_from_slice(text.as_slice())
     }
 }

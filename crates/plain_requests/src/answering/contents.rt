@@ -12,7 +12,7 @@ use super::paths::{names_of, walk};
 use super::room::{is_too_large, lacks_room, wanted};
 use super::{refused, unchanged, with_node};
 use rio_base::{Ino, Octets};
-use rio_model::{Node, State};
+use rio_model::{Node, Refusal, State};
 use rio_requests::{Answered, Reply};
 use std::alloc::{AllocError, Global};
 
@@ -42,9 +42,9 @@ fn read_in(alloc: Global, s: &State, ino: Ino, off: u64, len: u64) -> Result<Ans
             let part = bytes_from(alloc, bytes.as_slice(), off, len)?;
             unchanged(s, Reply::Bytes(part))
         }
-        Some(Node::Dir) => refused(s, 5),
-        Some(Node::Region(_)) => refused(s, 7),
-        None => refused(s, 2),
+        Some(Node::Dir) => refused(s, Refusal::IsADirectory as u8),
+        Some(Node::Region(_)) => refused(s, Refusal::IsARegion as u8),
+        None => refused(s, Refusal::NotFound as u8),
     }
 }
 
@@ -89,9 +89,9 @@ fn write_in(
 {
     match s.nodes.get(ino) {
         Some(Node::File(old)) => write_file(alloc, s, ino, old.as_slice(), off, bytes),
-        Some(Node::Dir) => refused(s, 5),
-        Some(Node::Region(_)) => refused(s, 7),
-        None => refused(s, 2),
+        Some(Node::Dir) => refused(s, Refusal::IsADirectory as u8),
+        Some(Node::Region(_)) => refused(s, Refusal::IsARegion as u8),
+        None => refused(s, Refusal::NotFound as u8),
     }
 }
 
@@ -111,11 +111,11 @@ fn write_file(
     }
     let end = off.saturating_add(bytes.len() as u64);
     if is_too_large(end) {
-        return refused(s, 10);
+        return refused(s, Refusal::TooLarge as u8);
     }
     let lacks = lacks_room(alloc, s, wanted(old.len() as u64, end))?;
     if lacks {
-        return refused(s, 11);
+        return refused(s, Refusal::NoSpace as u8);
     }
     let made = written(alloc, old, off as usize, bytes)?;
     with_file(
@@ -170,9 +170,9 @@ fn truncate_in(alloc: Global, s: &State, ino: Ino, len: u64) -> Result<Answered,
 {
     match s.nodes.get(ino) {
         Some(Node::File(old)) => truncate_file(alloc, s, ino, old.as_slice(), len),
-        Some(Node::Dir) => refused(s, 5),
-        Some(Node::Region(_)) => refused(s, 7),
-        None => refused(s, 2),
+        Some(Node::Dir) => refused(s, Refusal::IsADirectory as u8),
+        Some(Node::Region(_)) => refused(s, Refusal::IsARegion as u8),
+        None => refused(s, Refusal::NotFound as u8),
     }
 }
 
@@ -187,11 +187,11 @@ fn truncate_file(
     ensures { IfOk result (λ a. a ≡ with_size s.now (length old.now) len (answered_of (with_node_of s.now ino.0 (FileOf (resized_of old.now len))) Done)) }
 {
     if is_too_large(len) {
-        return refused(s, 10);
+        return refused(s, Refusal::TooLarge as u8);
     }
     let lacks = lacks_room(alloc, s, wanted(old.len() as u64, len))?;
     if lacks {
-        return refused(s, 11);
+        return refused(s, Refusal::NoSpace as u8);
     }
     let made = resized(alloc, old, len as usize)?;
     with_file(s, ino, Octets::from(made), Reply::Ok)

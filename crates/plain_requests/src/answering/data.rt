@@ -12,7 +12,7 @@ ghost use Rattle.plain_requests.specs.OnRegions.{Reads};
 use super::transactions::{Outcome, is_past, is_whole, kept, lacks_undo, narrow};
 use byteorder::{ByteOrder, LittleEndian};
 use rio_base::{Octets, RangeList, Words};
-use rio_model::{RegionNode, Txn};
+use rio_model::{Refusal, RegionNode, Txn};
 use rio_requests::{RegionAnswer, Reply};
 use std::alloc::{AllocError, Global};
 
@@ -26,10 +26,10 @@ pub fn range(
     ensures { IfOk result (λ o. o ≡ range_on region.now (option_copied txn.entry) off len) }
 {
     match txn {
-        None => Ok(Err(14)),
+        None => Ok(Err(Refusal::NoTransaction as u8)),
         Some(txn) => {
             if txn.doomed {
-                return Ok(Err(22));
+                return Ok(Err(Refusal::Doomed as u8));
             }
             range_in(region, txn, off, len)
         }
@@ -41,13 +41,13 @@ fn range_in(region: &RegionNode, txn: &Txn, off: u64, len: u64) -> Result<Outcom
     ensures { IfOk result (λ o. o ≡ of_words off len (within region.now off len (with_undo region.now txn.now (3 + len / 8) (Good (record { region = region.now; txn = Some (with_range_of txn.now off len); reply = Done }))))) }
 {
     if !is_whole(off, len) {
-        return Ok(Err(20));
+        return Ok(Err(Refusal::NotAligned as u8));
     }
     if is_past(region, off, len) {
-        return Ok(Err(19));
+        return Ok(Err(Refusal::OutOfRange as u8));
     }
     if lacks_undo(region, txn, 3 + len / 8) {
-        return Ok(Err(16));
+        return Ok(Err(Refusal::UndoFull as u8));
     }
     let txn = with_range(txn, off, len)?;
     kept(region, Some(txn), Reply::Ok)
@@ -113,10 +113,10 @@ pub fn put(
     ensures { IfOk result (λ o. o ≡ put_on region.now (option_copied txn.entry) off bytes.now) }
 {
     match txn {
-        None => Ok(Err(14)),
+        None => Ok(Err(Refusal::NoTransaction as u8)),
         Some(txn) => {
             if txn.doomed {
-                return Ok(Err(22));
+                return Ok(Err(Refusal::Doomed as u8));
             }
             put_in(alloc, region, txn, off, bytes)
         }
@@ -135,13 +135,13 @@ fn put_in(
 {
     let len = bytes.len() as u64;
     if !is_whole(off, len) {
-        return Ok(Err(20));
+        return Ok(Err(Refusal::NotAligned as u8));
     }
     if is_past(region, off, len) {
-        return Ok(Err(19));
+        return Ok(Err(Refusal::OutOfRange as u8));
     }
     if !all_in_range(txn.ranges.as_slice(), off / 8, len / 8) {
-        return Ok(Err(15));
+        return Ok(Err(Refusal::NotCovered as u8));
     }
     put_words(alloc, region, txn, off, bytes)
 }
@@ -239,10 +239,10 @@ pub fn get(
         None => false,
     };
     if doomed {
-        return Ok(Err(22));
+        return Ok(Err(Refusal::Doomed as u8));
     }
     if is_past(region, off, len) {
-        return Ok(Err(19));
+        return Ok(Err(Refusal::OutOfRange as u8));
     }
     let bytes = bytes_from(alloc, region.words.as_slice(), off as usize, len as usize)?;
     Ok(Ok(bytes))

@@ -7,7 +7,7 @@ ghost use Rattle.rio_requests.specs.RegionAnswers.{all_free as all_free_of, allo
 
 use super::transactions::{Outcome, lacks_undo, narrow};
 use rio_base::HeapList;
-use rio_model::{RegionNode, Txn};
+use rio_model::{Refusal, RegionNode, Txn};
 use rio_requests::{RegionAnswer, Reply};
 use std::alloc::AllocError;
 
@@ -16,14 +16,14 @@ pub fn alloc(region: &RegionNode, txn: Option<&Txn>, units: u64) -> Result<Outco
     ensures { IfOk result (λ o. o ≡ alloc_on region.now (option_copied txn.entry) units) }
 {
     match txn {
-        None => Ok(Err(14)),
+        None => Ok(Err(Refusal::NoTransaction as u8)),
         Some(txn) => {
             if txn.doomed {
-                return Ok(Err(22));
+                return Ok(Err(Refusal::Doomed as u8));
             }
             match first_fit(region, units) {
                 Some(at) => take(region, txn, at, units),
-                None => Ok(Err(17)),
+                None => Ok(Err(Refusal::HeapFull as u8)),
             }
         }
     }
@@ -34,17 +34,17 @@ pub fn free(region: &RegionNode, txn: Option<&Txn>, at: u64) -> Result<Outcome, 
     ensures { IfOk result (λ o. o ≡ free_on region.now (option_copied txn.entry) at) }
 {
     match txn {
-        None => Ok(Err(14)),
+        None => Ok(Err(Refusal::NoTransaction as u8)),
         Some(txn) => {
             if txn.doomed {
-                return Ok(Err(22));
+                return Ok(Err(Refusal::Doomed as u8));
             }
             if at % 64 != 0 {
-                return Ok(Err(18));
+                return Ok(Err(Refusal::NotBlock as u8));
             }
             match block_size(region.blocks.as_slice(), at / 64) {
                 Some(units) => give(region, txn, at / 64, units),
-                None => Ok(Err(18)),
+                None => Ok(Err(Refusal::NotBlock as u8)),
             }
         }
     }
@@ -150,7 +150,7 @@ fn take(region: &RegionNode, txn: &Txn, at: u64, units: u64) -> Result<Outcome, 
 {
     let words = map_record(at, units)?;
     if lacks_undo(region, txn, words) {
-        return Ok(Err(16));
+        return Ok(Err(Refusal::UndoFull as u8));
     }
     let unit = narrow(at)?;
     let blocks = with_block(&region.blocks, at, units)?;
@@ -163,7 +163,7 @@ fn give(region: &RegionNode, txn: &Txn, unit: u64, units: u64) -> Result<Outcome
 {
     let words = map_record(unit, units)?;
     if lacks_undo(region, txn, words) {
-        return Ok(Err(16));
+        return Ok(Err(Refusal::UndoFull as u8));
     }
     let blocks = without_block(region.blocks.clone()?, unit);
     recorded(region, blocks, txn, words, Reply::Ok)

@@ -10,7 +10,7 @@ use super::paths::{names_of, walk, walk_to_dir};
 use super::room::data_pages;
 use super::{refused, unchanged};
 use rio_base::Ino;
-use rio_model::{Node, State};
+use rio_model::{Node, Refusal, State};
 use rio_requests::{Answered, Reply};
 use std::alloc::{AllocError, Global};
 
@@ -42,7 +42,7 @@ fn stat_node(alloc: Global, s: &State, ino: Ino) -> Result<Answered, AllocError>
             let size = bytes_of(4096, data_pages(region) as u64)?;
             unchanged(s, Reply::Stat { ino, kind: 3, size })
         }
-        None => refused(s, 2),
+        None => refused(s, Refusal::NotFound as u8),
     }
 }
 

@@ -13,7 +13,7 @@ use super::paths::{directory_of, last_of, names_of};
 use super::room::{lacks_room, new_blocks, row_wanted};
 use super::{refused, with_node};
 use rio_base::{HeapList, Ino, Octets, Words};
-use rio_model::{NameRow, NameRows, Node, RegionNode, State};
+use rio_model::{NameRow, NameRows, Node, Refusal, RegionNode, State};
 use rio_requests::{Answered, Reply};
 use std::alloc::{AllocError, Global};
 
@@ -49,7 +49,7 @@ pub fn make_region(
 {
     let names = names_of(alloc, path)?;
     if names.is_empty() {
-        return refused(s, 3);
+        return refused(s, Refusal::Exists as u8);
     }
     match directory_of(s, names.as_slice()) {
         Ok(dir) => region_row(alloc, s, dir, last_of(names.as_slice()), pages, undo),
@@ -69,7 +69,7 @@ fn region_row(
     ensures { IfOk result (λ a. a ≡ region_row_of s.now dir.0 name.now pages undo (get s.now.names (dir.0, name.now))) }
 {
     if s.names.get(dir, name.as_slice()).is_some() {
-        return refused(s, 3);
+        return refused(s, Refusal::Exists as u8);
     }
     new_region(alloc, s, dir, name, pages, undo)
 }
@@ -86,7 +86,7 @@ fn new_region(
     ensures { IfOk result (λ a. a ≡ region_row_of s.now dir.0 name.now pages undo Absent) }
 {
     if has_too_many(pages, undo) {
-        return refused(s, 10);
+        return refused(s, Refusal::TooLarge as u8);
     }
     let words = vec![in alloc; 0u64; 512 * pages as usize]?;
     let region = RegionNode {
@@ -112,7 +112,7 @@ fn make(alloc: Global, s: &State, names: &[Octets], node: &Node) -> Result<Answe
     ensures { IfOk result (λ a. a ≡ make_of s.now names.now node.now) }
 {
     if names.is_empty() {
-        return refused(s, 3);
+        return refused(s, Refusal::Exists as u8);
     }
     match directory_of(s, names) {
         Ok(dir) => make_row(alloc, s, dir, last_of(names), node),
@@ -131,7 +131,7 @@ fn make_row(
     ensures { IfOk result (λ a. a ≡ make_row_of s.now dir.0 name.now node.now (get s.now.names (dir.0, name.now))) }
 {
     match s.names.get(dir, name.as_slice()) {
-        Some(_) => refused(s, 3),
+        Some(_) => refused(s, Refusal::Exists as u8),
         None => make_free(alloc, s, dir, name, node),
     }
 }
@@ -148,7 +148,7 @@ fn make_free(
 {
     match least_free(s) {
         Some(ino) => make_new(alloc, s, dir, name, node, ino),
-        None => refused(s, 12),
+        None => refused(s, Refusal::NoInode as u8),
     }
 }
 
@@ -180,7 +180,7 @@ fn make_new(
     let wants = new_blocks(node) + row;
     let lacks = lacks_room(alloc, s, wants)?;
     if lacks {
-        return refused(s, 11);
+        return refused(s, Refusal::NoSpace as u8);
     }
     with_new(s, dir, name, ino, node)
 }

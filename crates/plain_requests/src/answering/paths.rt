@@ -8,7 +8,7 @@ ghost use Rattle.rio_requests.specs.Answers.{found as found_of};
 ghost use Rattle.rio_model.specs.Paths.{names_of as defined_names, is_dir as is_dir_of, walk as walk_of, walk_to_dir as walk_to_dir_of};
 
 use rio_base::{Ino, Octets};
-use rio_model::{Node, State};
+use rio_model::{Node, Refusal, State};
 use std::alloc::{AllocError, Global};
 use std::mem;
 
@@ -58,11 +58,11 @@ pub fn walk(s: &State, names: &[Octets]) -> Result<Ino, u8>
     let mut at = Ino(1);
     for name in names {
         if !is_dir(s, at) {
-            return Err(4);
+            return Err(Refusal::NotADirectory as u8);
         }
         match s.names.get(at, name.as_slice()) {
             Some(next) => at = next,
-            None => return Err(2),
+            None => return Err(Refusal::NotFound as u8),
         }
     }
     Ok(at)
@@ -73,7 +73,7 @@ pub fn walk_to_dir(s: &State, names: &[Octets]) -> Result<Ino, u8>
     ensures { MatchResult result (λ i. walk_to_dir_of s.now names.now ≡ Good i.0) (λ number. walk_to_dir_of s.now names.now ≡ Bad number) }
 {
     match walk(s, names) {
-        Ok(at) => { if is_dir(s, at) { Ok(at) } else { Err(4) } }
+        Ok(at) => { if is_dir(s, at) { Ok(at) } else { Err(Refusal::NotADirectory as u8) } }
         Err(number) => Err(number),
     }
 }
@@ -101,6 +101,6 @@ pub fn found(s: &State, dir: Ino, name: &Octets) -> Result<Ino, u8>
 {
     match s.names.get(dir, name.as_slice()) {
         Some(ino) => Ok(ino),
-        None => Err(2),
+        None => Err(Refusal::NotFound as u8),
     }
 }

@@ -11,7 +11,7 @@ use super::paths::{names_of, walk};
 use super::transactions::Outcome;
 use super::{data, heap, refused, transactions, unchanged, with_node};
 use rio_base::{Ino, InoList};
-use rio_model::{Node, RegionNode, State, Txn, TxnList};
+use rio_model::{Node, Refusal, RegionNode, State, Txn, TxnList};
 use rio_requests::{Answered, RegionAnswer, Reply};
 use std::alloc::{AllocError, Global};
 
@@ -207,9 +207,9 @@ fn as_region(s: &State, ino: Ino) -> Result<OnRegion<'_>, u8>
             let txn = txn_at(s.txns.as_slice(), ino);
             Ok(OnRegion { ino, region, txn })
         }
-        Some(Node::Dir) => Err(8),
-        Some(Node::File(_)) => Err(8),
-        None => Err(2),
+        Some(Node::Dir) => Err(Refusal::NotARegion as u8),
+        Some(Node::File(_)) => Err(Refusal::NotARegion as u8),
+        None => Err(Refusal::NotFound as u8),
     }
 }
 

@@ -12,7 +12,7 @@ use super::listing::count_names;
 use super::paths::{directory_of, found, is_dir, last_of, names_of};
 use super::refused;
 use rio_base::{Ino, Octets};
-use rio_model::{Node, State, Txn};
+use rio_model::{Node, Refusal, State, Txn};
 use rio_requests::{Answered, Reply};
 use std::alloc::{AllocError, Global};
 
@@ -22,7 +22,7 @@ pub fn unlink(alloc: Global, s: &State, path: &[u8]) -> Result<Answered, AllocEr
 {
     let names = names_of(alloc, path)?;
     if names.is_empty() {
-        return refused(s, 9);
+        return refused(s, Refusal::IsRoot as u8);
     }
     match directory_of(s, names.as_slice()) {
         Ok(dir) => unlink_row(s, dir, last_of(names.as_slice())),
@@ -45,10 +45,10 @@ fn unlink_node(s: &State, dir: Ino, name: &Octets, ino: Ino) -> Result<Answered,
     ensures { IfOk result (λ a. a ≡ unlink_node_of s.now (open_inodes s.now) dir.0 name.now ino.0) }
 {
     if is_dir(s, ino) {
-        return refused(s, 5);
+        return refused(s, Refusal::IsADirectory as u8);
     }
     if is_open(s, ino) {
-        return refused(s, 13);
+        return refused(s, Refusal::Busy as u8);
     }
     without(s, dir, name, ino)
 }
@@ -96,7 +96,7 @@ pub fn rmdir(alloc: Global, s: &State, path: &[u8]) -> Result<Answered, AllocErr
 {
     let names = names_of(alloc, path)?;
     if names.is_empty() {
-        return refused(s, 9);
+        return refused(s, Refusal::IsRoot as u8);
     }
     match directory_of(s, names.as_slice()) {
         Ok(dir) => rmdir_row(alloc, s, dir, last_of(names.as_slice())),
@@ -125,11 +125,11 @@ fn rmdir_node(
     ensures { IfOk result (λ a. a ≡ rmdir_node_of s.now dir.0 name.now ino.0) }
 {
     if !is_dir(s, ino) {
-        return refused(s, 4);
+        return refused(s, Refusal::NotADirectory as u8);
     }
     let empty = is_empty(alloc, s, ino)?;
     if !empty {
-        return refused(s, 6);
+        return refused(s, Refusal::NotEmpty as u8);
     }
     without(s, dir, name, ino)
 }

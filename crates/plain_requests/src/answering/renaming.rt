@@ -13,7 +13,7 @@ use super::removing::is_open;
 use super::room::{lacks_room, row_wanted};
 use super::{refused, unchanged};
 use rio_base::{Ino, Octets};
-use rio_model::State;
+use rio_model::{Refusal, State};
 use rio_requests::{Answered, Reply};
 use std::alloc::{AllocError, Global};
 
@@ -53,7 +53,7 @@ fn rename_ino(
     ensures { IfOk result (λ a. a ≡ rename_at_of s.now (open_inodes s.now) from.now to.now) }
 {
     if to.is_empty() {
-        return refused(s, 9);
+        return refused(s, Refusal::IsRoot as u8);
     }
     match directory_of(s, to) {
         Ok(to_dir) => rename_to(alloc, s, from, to, ino, to_dir),
@@ -74,10 +74,10 @@ fn rename_to(
     ensures { IfOk result (λ a. a ≡ rename_to_of s.now (open_inodes s.now) from.now to.now ino.0 to_dir.0) }
 {
     if from.is_empty() {
-        return refused(s, 9);
+        return refused(s, Refusal::IsRoot as u8);
     }
     if is_below(from, to) {
-        return refused(s, 21);
+        return refused(s, Refusal::InsideItself as u8);
     }
     let name = last_of(from);
     let to_name = last_of(to);
@@ -144,7 +144,7 @@ fn move_row(
     let wants = move_wanted(alloc, s, dir, to_dir)?;
     let lacks = lacks_room(alloc, s, wants)?;
     if lacks {
-        return refused(s, 11);
+        return refused(s, Refusal::NoSpace as u8);
     }
     let next = moved(s, dir, name, to_dir, to_name, ino)?;
     Ok(Answered {
@@ -197,14 +197,14 @@ fn replace_row(
     }
     let from_dir = is_dir(s, ino);
     if from_dir {
-        return refused(s, 3);
+        return refused(s, Refusal::Exists as u8);
     }
     let over_dir = is_dir(s, gone);
     if over_dir {
-        return refused(s, 3);
+        return refused(s, Refusal::Exists as u8);
     }
     if is_open(s, gone) {
-        return refused(s, 13);
+        return refused(s, Refusal::Busy as u8);
     }
     let mut next = moved(s, dir, name, to_dir, to_name, ino)?;
     next.nodes.remove(gone);

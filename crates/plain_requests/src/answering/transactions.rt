@@ -6,7 +6,7 @@ ghost use Rattle.rio_requests.specs.RegionAnswers.{abort_on, begin_on, commit_on
 ghost use Rattle.rio_requests.specs.declared.reply.Reply.TheVariants.{Ok as Done};
 
 use rio_base::{Ino, Items, RangeList};
-use rio_model::{RegionNode, Txn};
+use rio_model::{Refusal, RegionNode, Txn};
 use rio_requests::{RegionAnswer, Reply};
 use std::alloc::{AllocError, Global};
 
@@ -67,7 +67,7 @@ pub fn begin(
     ensures { IfOk result (λ o. o ≡ begin_on ino.0 region.now (option_copied txn.entry)) }
 {
     match txn {
-        Some(_) => Ok(Err(13)),
+        Some(_) => Ok(Err(Refusal::Busy as u8)),
         None => {
             let begun = begun(alloc, ino, region)?;
             kept(region, Some(begun), Reply::Ok)
@@ -95,10 +95,10 @@ pub fn commit(region: &RegionNode, txn: Option<&Txn>) -> Result<Outcome, AllocEr
     ensures { IfOk result (λ o. o ≡ commit_on region.now (option_copied txn.entry)) }
 {
     match txn {
-        None => Ok(Err(14)),
+        None => Ok(Err(Refusal::NoTransaction as u8)),
         Some(txn) => {
             if txn.doomed {
-                return Ok(Err(22));
+                return Ok(Err(Refusal::Doomed as u8));
             }
             kept(region, None, Reply::Ok)
         }
@@ -110,7 +110,7 @@ pub fn abort(region: &RegionNode, txn: Option<&Txn>) -> Result<Outcome, AllocErr
     ensures { IfOk result (λ o. o ≡ abort_on region.now (option_copied txn.entry)) }
 {
     match txn {
-        None => Ok(Err(14)),
+        None => Ok(Err(Refusal::NoTransaction as u8)),
         Some(txn) => {
             let region = undone(region, txn)?;
             Ok(Ok(RegionAnswer {
