@@ -18,13 +18,10 @@ ghost use Rattle.boots.specs.Parts.{NeverFails, PartsStand};
 use crate::parts::{Parts, board_of};
 use inode_table::read_inode;
 use registry::CoverView;
-use rio_base::{Blocks, Ino, Machine, VolFail, VolumeShape};
+use rio_base::{Blocks, FILE, Ino, Machine, VolFail, VolumeShape};
 use rio_model::Census;
 use std::alloc::{AllocError, Global};
 use warm_reboot::{BootError, BootFail, examine};
-
-/// The kind of an inode that is a file.
-const KIND_FILE: u8 = 2;
 
 /// The counts of a volume.
 #[derive(Clone, Copy)]
@@ -124,7 +121,7 @@ fn file_size<V: Blocks>(v: &mut V, shape: &VolumeShape, i: Ino) -> Result<u64, V
     ensures sound { V.sound v.new }
 {
     let inode = read_inode(v, shape, i)?;
-    if inode.kind != KIND_FILE {
+    if inode.kind != FILE {
         return Ok(0);
     }
     Ok(inode.size)

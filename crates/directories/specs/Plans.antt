@@ -5,6 +5,7 @@ use Rattle.rio_base.specs.declared.places.VolumeShape.{VolumeShape}
 use Rattle.rio_base.specs.Bitmap.{free_blocks}
 use Rattle.rio_base.specs.Blocks.{BlockWords, Seen}
 use Rattle.rio_base.specs.Volume.{Kept}
+use Rattle.rio_base.specs.NodeKinds.{dir_kind}
 use Rattle.rio_model.specs.Held.{Held, held, held_of}
 use Rattle.rio_model.specs.NodeChanges.{Available}
 use Rattle.rio_model.specs.Placed.{Slot, Placed, HasSlot, placed_at, volume_layout, IsFree, SamePlaced}
@@ -50,8 +51,8 @@ pub record PlansDir (shape : VolumeShape) (f : BlockWords) (y : Seen) (j : Kept)
   pub from : (s : Slot) → HasSlot node s → Available (volume_layout shape f) d (node.block s)
   pub takes : TakesLowest shape f (placed_at f d).size node.size (numbers c.taken)
   pub made : (g : BlockWords) → SameBlocks node y.words g → held (edited g (map word_edit c.edits)) node ≡ holds
-  pub was_dir : (placed_at f d).kind ≡ 1
-  pub is_dir : node.kind ≡ 1
+  pub was_dir : (placed_at f d).kind ≡ dir_kind
+  pub is_dir : node.kind ≡ dir_kind
   pub does : becomes (held_of shape f d) holds
   pub words : (e : Edit) → Contains c.edits e → e.word < 512
   pub few : InThreeBlocks c.edits

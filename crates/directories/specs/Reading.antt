@@ -5,6 +5,7 @@ use Rattle.rio_base.specs.Blocks.{Seen}
 use Rattle.rio_base.specs.Layout.{IsIno}
 use Rattle.rio_base.specs.Shapes.{HasShape}
 use Rattle.rio_base.specs.declared.places.Ino.{Ino}
+use Rattle.rio_base.specs.NodeKinds.{dir_kind}
 use Rattle.rio_model.specs.Held.{Held, entry_name, held_of}
 use Rattle.rio_model.specs.Placed.{placed_at, volume_layout}
 use Rattle.rio_model.specs.VolumeReady.{AllNamed}
@@ -19,7 +20,7 @@ pub record CanReadDir (shape : VolumeShape) (x : Seen) (d : ℕ) : Type 0 where
   pub named : AllNamed (volume_layout shape x.words) x
   pub entries : EntryRule (held_of shape x.words)
   pub ino : IsIno shape d
-  pub dir : (placed_at x.words d).kind ≡ 1
+  pub dir : (placed_at x.words d).kind ≡ dir_kind
 
 -- ---- a name found: among the entries of a page, and among those of a directory
 

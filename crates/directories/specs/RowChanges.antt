@@ -1,12 +1,13 @@
 -- What a change does to the rows of a directory.
 use Rattle.std.specs.Prelude.{◌≡◌, ℕ, ◌+◌, ◌-◌, ◌⊎◌, List}
 use Rattle.rio_model.specs.Held.{Held, entry_name}
+use Rattle.rio_base.specs.NodeKinds.{dir_kind}
 use Rattle.directories.specs.Rows.{HasRow, NamesApart}
 
 -- directory k is directory h with other rows: those of the names that are `gone` are there no more, the `new` ones are, and
 -- all others stay. That a gone name has no row left, and that no name stands twice, holds where none stood twice before
 pub record ChangesRows (h k : Held) (size : ℕ) (gone : List ℕ → Type 0) (new : List ℕ → ℕ → Type 0) : Type 0 where
-  pub dir : k.kind ≡ 1
+  pub dir : k.kind ≡ dir_kind
   pub sized : k.size ≡ size
   pub stay : (name : List ℕ) (i : ℕ) → HasRow h name i → (gone name → ⊥) → HasRow k name i
   pub come : (name : List ℕ) (i : ℕ) → new name i → HasRow k name i

@@ -3,6 +3,7 @@
 ghost use Rattle.std.specs.Prelude.{◌≡◌, ◌≢◌, ◌+◌, ◌*◌, ◌/◌, ◌<◌, ◌≤◌, ℕ, None, length, slice_index, IfOk, IfSome};
 ghost use Rattle.rio_base.specs.Blocks.{CanName, Caches, Ends, Looks};
 ghost use Rattle.rio_base.specs.Shapes.{HasShape};
+ghost use Rattle.rio_base.specs.NodeKinds.{dir_kind};
 ghost use Rattle.rio_model.specs.Held.{held_of};
 ghost use Rattle.rio_model.specs.Placed.{AtPage, Owns, placed_at, volume_layout};
 ghost use Rattle.rio_model.specs.VolumeReady.{AllNamed};
@@ -186,7 +187,7 @@ pub fn find_at_inode<V: Blocks>(
     requires mapped { IsMapped shape.now (V.seen v.old).words }
     requires named { AllNamed (volume_layout shape.now (V.seen v.old).words) (V.seen v.old) }
     requires entries { EntryRule (held_of shape.now (V.seen v.old).words) }
-    requires dir { (held_of shape.now (V.seen v.old).words dir.0).kind ≡ 1 }
+    requires dir { (held_of shape.now (V.seen v.old).words dir.0).kind ≡ dir_kind }
     requires inode { IsInode (V.seen v.old).words dir.0 inode.now }
     ensures value { IfOk result (Finds (held_of shape.now (V.seen v.old).words dir.0) name.now) }
     ensures looks { Looks (V.seen v.old) (V.seen v.new) }
@@ -219,7 +220,7 @@ pub fn find<V: Blocks>(
     requires mapped { IsMapped shape.now (V.seen v.old).words }
     requires named { AllNamed (volume_layout shape.now (V.seen v.old).words) (V.seen v.old) }
     requires entries { EntryRule (held_of shape.now (V.seen v.old).words) }
-    requires dir { (held_of shape.now (V.seen v.old).words dir.0).kind ≡ 1 }
+    requires dir { (held_of shape.now (V.seen v.old).words dir.0).kind ≡ dir_kind }
     ensures value { IfOk result (Finds (held_of shape.now (V.seen v.old).words dir.0) name.now) }
     ensures looks { Looks (V.seen v.old) (V.seen v.new) }
     ensures shape { HasShape shape.now (V.seen v.new) }
@@ -247,7 +248,7 @@ pub fn row_at<V: Blocks>(
     requires mapped { IsMapped shape.now (V.seen v.old).words }
     requires named { AllNamed (volume_layout shape.now (V.seen v.old).words) (V.seen v.old) }
     requires entries { EntryRule (held_of shape.now (V.seen v.old).words) }
-    requires dir { (held_of shape.now (V.seen v.old).words dir.0).kind ≡ 1 }
+    requires dir { (held_of shape.now (V.seen v.old).words dir.0).kind ≡ dir_kind }
     requires inode { IsInode (V.seen v.old).words dir.0 inode.now }
     ensures value { IfOk result (λ found. IfSome found (λ i. IsEntry (held_of shape.now (V.seen v.old).words dir.0) slot name.now i.0)) }
     ensures none { IfOk result (λ found. found ≡ None → (i : ℕ) → IsEntry (held_of shape.now (V.seen v.old).words dir.0) slot name.now i → ⊥) }

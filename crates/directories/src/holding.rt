@@ -4,6 +4,7 @@ ghost use Rattle.std.specs.Prelude.{◌≡◌, ◌/◌, ◌%◌, ◌^◌, ◌≤
 ghost use Rattle.std.specs.FinMap.{empty, insert};
 ghost use Rattle.rio_base.specs.Blocks.{EndsBy, Looks};
 ghost use Rattle.rio_base.specs.Shapes.{HasShape};
+ghost use Rattle.rio_base.specs.NodeKinds.{dir_kind};
 ghost use Rattle.rio_model.specs.Held.{held_of};
 ghost use Rattle.rio_model.specs.Placed.{volume_layout};
 ghost use Rattle.rio_model.specs.VolumeReady.{AllNamed};
@@ -45,7 +46,7 @@ pub fn hold_names<V: Blocks>(
     requires mapped { IsMapped shape.now (V.seen v.old).words }
     requires named { AllNamed (volume_layout shape.now (V.seen v.old).words) (V.seen v.old) }
     requires entries { EntryRule (held_of shape.now (V.seen v.old).words) }
-    requires dir { (held_of shape.now (V.seen v.old).words dir.0).kind ≡ 1 }
+    requires dir { (held_of shape.now (V.seen v.old).words dir.0).kind ≡ dir_kind }
     requires inode { IsInode (V.seen v.old).words dir.0 inode.now }
     requires apart { NamesApart (held_of shape.now (V.seen v.old).words dir.0) }
     requires blank { names.old ≡ empty }

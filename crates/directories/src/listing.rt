@@ -11,6 +11,7 @@ ghost use Rattle.rio_model.specs.VolumeRules.{EntryRule, IsMapped};
 ghost use Rattle.inode_table.specs.Inodes.{IsInode};
 ghost use Rattle.node_pages.specs.LookingUp.{LooksUp};
 ghost use Rattle.rio_base.specs.Bytes.{bytes_of};
+ghost use Rattle.rio_base.specs.NodeKinds.{dir_kind};
 ghost use Rattle.directories.specs.Entries.{name_in};
 ghost use Rattle.directories.specs.Reading.{CanReadDir};
 ghost use Rattle.directories.specs.Rows.{ListsNames};
@@ -173,7 +174,7 @@ pub fn names<V: Blocks>(
     requires mapped { IsMapped shape.now (V.seen v.old).words }
     requires named { AllNamed (volume_layout shape.now (V.seen v.old).words) (V.seen v.old) }
     requires entries { EntryRule (held_of shape.now (V.seen v.old).words) }
-    requires dir { (held_of shape.now (V.seen v.old).words dir.0).kind ≡ 1 }
+    requires dir { (held_of shape.now (V.seen v.old).words dir.0).kind ≡ dir_kind }
     ensures value { IfOk result (ListsNames (held_of shape.now (V.seen v.old).words dir.0)) }
     ensures looks { Looks (V.seen v.old) (V.seen v.new) }
     ensures shape { HasShape shape.now (V.seen v.new) }

@@ -5,6 +5,7 @@ ghost use Rattle.std.specs.List.{Contains};
 ghost use Rattle.rio_base.specs.Bitmap.{free_blocks};
 ghost use Rattle.rio_base.specs.Blocks.{Ends, EndsBy};
 ghost use Rattle.rio_base.specs.Volume.{Goes};
+ghost use Rattle.rio_base.specs.NodeKinds.{dir_kind};
 ghost use Rattle.rio_model.specs.Held.{HasEntry, held_of};
 ghost use Rattle.rio_model.specs.Paths.{IsName};
 ghost use Rattle.rio_model.specs.NodeChanges.{shrunk};
@@ -83,7 +84,7 @@ pub fn plan_add<V: Volume>(
     requires sound { V.sound v.old }
     requires ready { Ready shape.now (V.seen v.old) (V.kept v.old) }
     requires entries { EntryRule (held_of shape.now (V.seen v.old).words) }
-    requires dir { (held_of shape.now (V.seen v.old).words dir.0).kind ≡ 1 }
+    requires dir { (held_of shape.now (V.seen v.old).words dir.0).kind ≡ dir_kind }
     requires room { (held_of shape.now (V.seen v.old).words dir.0).size + 64 ≤ largest_size }
     requires is_name { IsName name.now }
     requires absent { (n : ℕ) → HasRow (held_of shape.now (V.seen v.old).words dir.0) name.now n → ⊥ }

@@ -6,6 +6,7 @@ use Rattle.rio_base.specs.Blocks.{BlockWords, Seen}
 use Rattle.rio_base.specs.Layout.{IsIno}
 use Rattle.rio_base.specs.Shapes.{reserved}
 use Rattle.rio_base.specs.Volume.{Kept}
+use Rattle.rio_base.specs.NodeKinds.{dir_kind}
 use Rattle.rio_model.specs.Held.{Held, held_of}
 use Rattle.rio_model.specs.Paths.{IsName}
 use Rattle.rio_model.specs.Placed.{placed_at}
@@ -25,19 +26,19 @@ pub record IsTestDir (i : ℕ) : Type 0 where
 pub record DirsOrder (shape : VolumeShape) (x : Seen) (k : Kept) : Type 0 where
   pub order : InOrder shape x.words x k
   pub entries : EntryRule (held_of shape x.words)
-  pub dirs : (i : ℕ) → IsTestDir i → (held_of shape x.words i).kind ≡ 1
+  pub dirs : (i : ℕ) → IsTestDir i → (held_of shape x.words i).kind ≡ dir_kind
   pub apart : (i : ℕ) → IsTestDir i → NamesApart (held_of shape x.words i)
 
 -- and may be called
 pub record DirsReady (shape : VolumeShape) (x : Seen) (k : Kept) : Type 0 where
   pub ready : Ready shape x k
   pub entries : EntryRule (held_of shape x.words)
-  pub dirs : (i : ℕ) → IsTestDir i → (held_of shape x.words i).kind ≡ 1
+  pub dirs : (i : ℕ) → IsTestDir i → (held_of shape x.words i).kind ≡ dir_kind
   pub apart : (i : ℕ) → IsTestDir i → NamesApart (held_of shape x.words i)
 
 -- a directory still, with no row more but of a name that a path may have for one of the directories, and no name twice
 pub record KeepsRows (h k : Held) : Type 0 where
-  pub dir : k.kind ≡ 1
+  pub dir : k.kind ≡ dir_kind
   pub rows : (name : List ℕ) (i : ℕ) → HasRow k name i → HasRow h name i ⊎ (IsName name × IsTestDir i)
   pub apart : NamesApart h → NamesApart k
 

@@ -3,6 +3,7 @@
 ghost use Rattle.std.specs.Prelude.{◌≡◌, IfOk, IsErrOf, OnOk};
 ghost use Rattle.rio_base.specs.Blocks.{EndsBy};
 ghost use Rattle.rio_base.specs.Volume.{Goes};
+ghost use Rattle.rio_base.specs.NodeKinds.{file_kind};
 ghost use Rattle.rio_model.specs.Held.{held_of};
 ghost use Rattle.rio_model.specs.Paths.{IsPath, names_of, walk as walk_of};
 ghost use Rattle.rio_model.specs.Placed.{volume_layout};
@@ -20,8 +21,8 @@ ghost use Rattle.file_tree.specs.Walks.{FileComes, ino_in};
 
 use file_tree::{Memo, inode_of, walk};
 use inode_table::Inode;
-use request_ends::{DIRECTORY, FileFail, REGION};
-use rio_base::{Ino, Octets, Volume, VolumeShape};
+use request_ends::FileFail;
+use rio_base::{DIRECTORY, Ino, Octets, REGION, Volume, VolumeShape};
 use rio_model::Refusal;
 use std::alloc::Global;
 
@@ -36,7 +37,7 @@ fn walk_to_file<V: Volume>(
     requires can { CanServe shape.now (V.seen v.old) (V.kept v.old) }
     requires in_step { InStep shape.now (V.seen v.old).words memo.old }
     ensures value { (s : State) → ReadsAs shape.now (V.seen v.old).words s → FileComes s (walk_of s 1 (names_of path.now)) (ino_in result) }
-    ensures file { IfOk result (λ at. (held_of shape.now (V.seen v.old).words at.0.0).kind ≡ 2) }
+    ensures file { IfOk result (λ at. (held_of shape.now (V.seen v.old).words at.0.0).kind ≡ file_kind) }
     ensures inode { IfOk result (λ at. IsInode (V.seen v.old).words at.0.0 at.1) }
     ensures in_step { InStep shape.now (V.seen v.old).words memo.new }
     ensures leaves { LeavesInUse (volume_layout shape.now (V.seen v.old).words) (V.seen v.old) (V.kept v.old) (V.seen v.new) (V.kept v.new) }

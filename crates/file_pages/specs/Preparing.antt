@@ -5,6 +5,7 @@ use Rattle.rio_base.specs.declared.places.VolumeShape.{VolumeShape}
 use Rattle.rio_base.specs.Blocks.{BlockWords, Seen}
 use Rattle.rio_base.specs.Layout.{IsIno}
 use Rattle.rio_base.specs.Volume.{Kept, Settled}
+use Rattle.rio_base.specs.NodeKinds.{file_kind}
 use Rattle.block_alloc.specs.Bitmap.{numbers}
 use Rattle.rio_model.specs.FileParts.{ResizePart, resized}
 use Rattle.rio_model.specs.Held.{held, held_bytes}
@@ -24,12 +25,12 @@ use Rattle.node_pages.specs.declared.failures.SizeFail.TheVariants.{Fault, Stopp
 pub record Prepared (shape : VolumeShape) (f : BlockWords) (y : Seen) (j : Kept) (i : ℕ) (m : Placed) (c : SizeChange) : Type 0 where
   pub ino : IsIno shape i
   pub mapped : IsMapped shape f
-  pub was_file : (placed_at f i).kind ≡ 2
+  pub was_file : (placed_at f i).kind ≡ file_kind
   pub ready : Ready shape y j
   pub settled : Settled y j
   pub beside : AgreesBeside (volume_layout shape f) i f y.words
   pub turns : Turns shape (placed_at f i) m (size_update i c)
-  pub file : m.kind ≡ 2
+  pub file : m.kind ≡ file_kind
   pub from : (s : Slot) → HasSlot m s → Available (volume_layout shape f) i (m.block s)
   pub tables : AllByRecursion (EditsTable m) c.edits
   pub named : NamedNode i m y

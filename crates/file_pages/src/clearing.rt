@@ -4,6 +4,7 @@ ghost use Rattle.std.specs.Prelude.{◌≡◌, ◌≢◌, ℕ, length, slice_ind
 ghost use Rattle.rio_base.specs.Blocks.{Ends};
 ghost use Rattle.rio_base.specs.Layout.{IsIno};
 ghost use Rattle.rio_base.specs.Volume.{Goes};
+ghost use Rattle.rio_base.specs.NodeKinds.{file_kind};
 ghost use Rattle.rio_model.specs.Held.{held, held_bytes};
 ghost use Rattle.rio_model.specs.Placed.{AtPage, Owns, placed_at, volume_layout};
 ghost use Rattle.rio_model.specs.Sizes.{largest_size};
@@ -57,7 +58,7 @@ fn clear_page<V: Volume>(
     requires ready { Ready shape.now (V.seen v.old) (V.kept v.old) }
     requires owns { Owns (volume_layout shape.now (V.seen v.old).words) i.0 (AtPage page) }
     requires block { b.0 ≡ (placed_at (V.seen v.old).words i.0).block (AtPage page) }
-    requires file { (placed_at (V.seen v.old).words i.0).kind ≡ 2 }
+    requires file { (placed_at (V.seen v.old).words i.0).kind ≡ file_kind }
     requires grows { (placed_at (V.seen v.old).words i.0).size ≤ len }
     requires place { at < 4096 }
     ensures cleared { OnOk result (ZerosFrom (V.seen v.new).words b.0 at) }
@@ -95,7 +96,7 @@ pub fn clear_tail<V: Volume>(
     requires sound { V.sound v.old }
     requires ready { Ready shape.now (V.seen v.old) (V.kept v.old) }
     requires ino { IsIno shape.now i.0 }
-    requires file { (placed_at (V.seen v.old).words i.0).kind ≡ 2 }
+    requires file { (placed_at (V.seen v.old).words i.0).kind ≡ file_kind }
     requires size { (placed_at (V.seen v.old).words i.0).size ≡ size }
     requires grows { size ≤ len }
     ensures cleared { OnOk result (TailCleared (V.seen v.old).words (V.seen v.new) i.0 size len) }

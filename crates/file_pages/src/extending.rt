@@ -5,6 +5,7 @@ ghost use Rattle.rio_base.specs.Bitmap.{free_blocks};
 ghost use Rattle.rio_base.specs.Blocks.{EndsBy};
 ghost use Rattle.rio_base.specs.Layout.{IsIno};
 ghost use Rattle.rio_base.specs.Volume.{Goes};
+ghost use Rattle.rio_base.specs.NodeKinds.{file_kind};
 ghost use Rattle.rio_model.specs.NodeChanges.{grown};
 ghost use Rattle.rio_model.specs.Placed.{AtPage, Placed, volume_layout};
 ghost use Rattle.rio_model.specs.Sizes.{largest_size, pages};
@@ -93,7 +94,7 @@ fn plan_extension<V: Volume>(
     requires ready { Ready shape.now (V.seen v.old) (V.kept v.old) }
     requires ino { IsIno shape.now i.0 }
     requires inode { IsInode (V.seen v.old).words i.0 inode.now }
-    requires file { inode.now.kind ≡ 2 }
+    requires file { inode.now.kind ≡ file_kind }
     requires grows { inode.now.size ≤ len }
     requires most { len ≤ largest_size }
     requires first { first ≤ pages len }
@@ -160,7 +161,7 @@ pub fn write_past<V: Volume>(
     requires ready { Ready shape.now (V.seen v.old) (V.kept v.old) }
     requires ino { IsIno shape.now i.0 }
     requires inode { IsInode (V.seen v.old).words i.0 inode.now }
-    requires file { inode.now.kind ≡ 2 }
+    requires file { inode.now.kind ≡ file_kind }
     requires some { 0 < length bytes.now }
     requires past { inode.now.size < off + length bytes.now }
     requires most { off + length bytes.now ≤ largest_size }

@@ -4,6 +4,7 @@ ghost use Rattle.std.specs.Prelude.{◌≡◌, ◌+◌, ◌*◌, ◌/◌, ◌<�
 ghost use Rattle.rio_base.specs.Blocks.{EndsBy};
 ghost use Rattle.rio_base.specs.Layout.{IsIno};
 ghost use Rattle.rio_base.specs.Volume.{Goes};
+ghost use Rattle.rio_base.specs.NodeKinds.{file_kind};
 ghost use Rattle.rio_model.specs.Placed.{placed_at};
 ghost use Rattle.rio_model.specs.Sizes.{pages};
 ghost use Rattle.rio_model.specs.VolumeReady.{Ready};
@@ -33,7 +34,7 @@ fn write_pages<V: Volume>(
     requires sound { V.sound v.old }
     requires ready { Ready shape.now (V.seen v.old) (V.kept v.old) }
     requires ino { IsIno shape.now i.0 }
-    requires file { (placed_at (V.seen v.old).words i.0).kind ≡ 2 }
+    requires file { (placed_at (V.seen v.old).words i.0).kind ≡ file_kind }
     requires size { size ≡ (placed_at (V.seen v.old).words i.0).size }
     requires some { 0 < length bytes.now }
     requires within { off + length bytes.now ≤ size }
@@ -67,7 +68,7 @@ pub fn write_within<V: Volume>(
     requires ready { Ready shape.now (V.seen v.old) (V.kept v.old) }
     requires ino { IsIno shape.now i.0 }
     requires inode { IsInode (V.seen v.old).words i.0 inode.now }
-    requires file { inode.now.kind ≡ 2 }
+    requires file { inode.now.kind ≡ file_kind }
     requires some { 0 < length bytes.now }
     requires within { off + length bytes.now ≤ inode.now.size }
     ensures leaves { WriteLeaves shape.now (V.seen v.old) (V.kept v.old) (V.seen v.new) (V.kept v.new) i.0 off bytes.now result }

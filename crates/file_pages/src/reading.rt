@@ -14,6 +14,7 @@ ghost use Rattle.block_alloc.specs.Bitmap.{numbers};
 ghost use Rattle.inode_table.specs.Inodes.{IsInode};
 ghost use Rattle.node_pages.specs.LookingUp.{LooksUp, page_blocks};
 ghost use Rattle.rio_base.specs.Bytes.{bytes_of};
+ghost use Rattle.rio_base.specs.NodeKinds.{file_kind};
 ghost use Rattle.file_pages.specs.Files.{file_bytes};
 ghost use Rattle.file_pages.specs.PageBytes.{block_byte};
 
@@ -143,7 +144,7 @@ fn push_page<V: Blocks>(
     requires named { AllNamed (volume_layout shape.now (V.seen v.old).words) (V.seen v.old) }
     requires owns { Owns (volume_layout shape.now (V.seen v.old).words) i.0 (AtPage p) }
     requires block { b.0 ≡ (placed_at (V.seen v.old).words i.0).block (AtPage p) }
-    requires file { (placed_at (V.seen v.old).words i.0).kind ≡ 2 }
+    requires file { (placed_at (V.seen v.old).words i.0).kind ≡ file_kind }
     requires size { (placed_at (V.seen v.old).words i.0).size ≡ size }
     requires order { from ≤ to }
     requires page { to ≤ 4096 }
@@ -180,7 +181,7 @@ fn push_pages<V: Blocks>(
     requires mapped { IsMapped shape.now (V.seen v.old).words }
     requires named { AllNamed (volume_layout shape.now (V.seen v.old).words) (V.seen v.old) }
     requires ino { IsIno shape.now i.0 }
-    requires file { (placed_at (V.seen v.old).words i.0).kind ≡ 2 }
+    requires file { (placed_at (V.seen v.old).words i.0).kind ≡ file_kind }
     requires size { (placed_at (V.seen v.old).words i.0).size ≡ size }
     requires most { size ≤ largest_size }
     requires order { off ≤ end }
@@ -225,7 +226,7 @@ fn read_in_page<V: Blocks>(
     requires named { AllNamed (volume_layout shape.now (V.seen v.old).words) (V.seen v.old) }
     requires owns { Owns (volume_layout shape.now (V.seen v.old).words) i.0 (AtPage p) }
     requires block { b.0 ≡ (placed_at (V.seen v.old).words i.0).block (AtPage p) }
-    requires file { (placed_at (V.seen v.old).words i.0).kind ≡ 2 }
+    requires file { (placed_at (V.seen v.old).words i.0).kind ≡ file_kind }
     requires size { (placed_at (V.seen v.old).words i.0).size ≡ size }
     requires order { off ≤ end }
     requires from { 4096 * p ≤ off }
@@ -269,7 +270,7 @@ fn read_bytes<V: Blocks>(
     requires named { AllNamed (volume_layout shape.now (V.seen v.old).words) (V.seen v.old) }
     requires ino { IsIno shape.now i.0 }
     requires inode { IsInode (V.seen v.old).words i.0 inode.now }
-    requires file { (placed_at (V.seen v.old).words i.0).kind ≡ 2 }
+    requires file { (placed_at (V.seen v.old).words i.0).kind ≡ file_kind }
     requires within { end ≤ inode.now.size }
     requires most { inode.now.size ≤ largest_size }
     ensures value { IfOk result (λ bytes. bytes ≡ bytes_in (held (V.seen v.old).words (placed_at (V.seen v.old).words i.0)).word off (end - off)) }
@@ -306,7 +307,7 @@ pub fn read_at_inode<V: Blocks>(
     requires shape { HasShape shape.now (V.seen v.old) }
     requires mapped { IsMapped shape.now (V.seen v.old).words }
     requires named { AllNamed (volume_layout shape.now (V.seen v.old).words) (V.seen v.old) }
-    requires file { (held_of shape.now (V.seen v.old).words i.0).kind ≡ 2 }
+    requires file { (held_of shape.now (V.seen v.old).words i.0).kind ≡ file_kind }
     requires inode { IsInode (V.seen v.old).words i.0 inode.now }
     ensures value { IfOk result (λ bytes. bytes ≡ take len (drop off (file_bytes shape.now (V.seen v.old).words i.0))) }
     ensures looks { Looks (V.seen v.old) (V.seen v.new) }
@@ -333,7 +334,7 @@ pub fn read<V: Blocks>(
     requires shape { HasShape shape.now (V.seen v.old) }
     requires mapped { IsMapped shape.now (V.seen v.old).words }
     requires named { AllNamed (volume_layout shape.now (V.seen v.old).words) (V.seen v.old) }
-    requires file { (held_of shape.now (V.seen v.old).words i.0).kind ≡ 2 }
+    requires file { (held_of shape.now (V.seen v.old).words i.0).kind ≡ file_kind }
     ensures value { IfOk result (λ bytes. bytes ≡ take len (drop off (file_bytes shape.now (V.seen v.old).words i.0))) }
     ensures looks { Looks (V.seen v.old) (V.seen v.new) }
     ensures shape { HasShape shape.now (V.seen v.new) }

@@ -5,6 +5,7 @@ ghost use Rattle.rio_base.specs.Bitmap.{free_blocks};
 ghost use Rattle.rio_base.specs.Blocks.{EndsBy};
 ghost use Rattle.rio_base.specs.Layout.{IsIno};
 ghost use Rattle.rio_base.specs.Volume.{Goes};
+ghost use Rattle.rio_base.specs.NodeKinds.{file_kind};
 ghost use Rattle.rio_model.specs.FileParts.{resized};
 ghost use Rattle.rio_model.specs.Held.{held_of};
 ghost use Rattle.rio_model.specs.Placed.{placed_at, volume_layout};
@@ -38,7 +39,7 @@ fn shrink<V: Volume>(
     requires ready { Ready shape.now (V.seen v.old) (V.kept v.old) }
     requires ino { IsIno shape.now i.0 }
     requires inode { IsInode (V.seen v.old).words i.0 inode.now }
-    requires file { inode.now.kind ≡ 2 }
+    requires file { inode.now.kind ≡ file_kind }
     requires less { len ≤ inode.now.size }
     ensures leaves { SizeLeaves shape.now (V.seen v.old) (V.kept v.old) (V.seen v.new) (V.kept v.new) i.0 len result }
     ensures forgets { OnOk result (Forgets (volume_layout shape.now (V.seen v.old).words) (volume_layout shape.now (V.seen v.new).words) (V.seen v.new)) }
@@ -66,7 +67,7 @@ fn grow<V: Volume>(
     requires ready { Ready shape.now (V.seen v.old) (V.kept v.old) }
     requires ino { IsIno shape.now i.0 }
     requires inode { IsInode (V.seen v.old).words i.0 inode.now }
-    requires file { inode.now.kind ≡ 2 }
+    requires file { inode.now.kind ≡ file_kind }
     requires grows { inode.now.size ≤ len }
     requires most { len ≤ largest_size }
     ensures leaves { SizeLeaves shape.now (V.seen v.old) (V.kept v.old) (V.seen v.new) (V.kept v.new) i.0 len result }
@@ -99,7 +100,7 @@ fn size_at<V: Volume>(
     requires ready { Ready shape.now (V.seen v.old) (V.kept v.old) }
     requires ino { IsIno shape.now i.0 }
     requires inode { IsInode (V.seen v.old).words i.0 inode.now }
-    requires file { (placed_at (V.seen v.old).words i.0).kind ≡ 2 }
+    requires file { (placed_at (V.seen v.old).words i.0).kind ≡ file_kind }
     requires most { len ≤ largest_size }
     ensures leaves { SizeLeaves shape.now (V.seen v.old) (V.kept v.old) (V.seen v.new) (V.kept v.new) i.0 len result }
     ensures space { HasSpace shape.now (V.seen v.old).words (placed_at (V.seen v.old).words i.0).size len ⊎ LeavesInUse (volume_layout shape.now (V.seen v.old).words) (V.seen v.old) (V.kept v.old) (V.seen v.new) (V.kept v.new) }
@@ -134,7 +135,7 @@ pub fn resize_at_inode<V: Volume>(
     requires sound { V.sound v.old }
     requires ready { Ready shape.now (V.seen v.old) (V.kept v.old) }
     requires inode { IsInode (V.seen v.old).words i.0 inode.now }
-    requires file { (held_of shape.now (V.seen v.old).words i.0).kind ≡ 2 }
+    requires file { (held_of shape.now (V.seen v.old).words i.0).kind ≡ file_kind }
     ensures ok { OnOk result (SetsBoth shape.now (V.seen v.old).words (V.seen v.new) (V.kept v.new) i.0 (resized (file_bytes shape.now (V.seen v.old).words i.0) len)) }
     ensures space { OnOk result (HasSpace shape.now (V.seen v.old).words (length (file_bytes shape.now (V.seen v.old).words i.0)) len) }
     ensures too_large { IsErrOf result SizeFail.TooLarge → largest_size < len }
@@ -165,7 +166,7 @@ pub fn resize<V: Volume>(
 ) -> Result<(), SizeFail>
     requires sound { V.sound v.old }
     requires ready { Ready shape.now (V.seen v.old) (V.kept v.old) }
-    requires file { (held_of shape.now (V.seen v.old).words i.0).kind ≡ 2 }
+    requires file { (held_of shape.now (V.seen v.old).words i.0).kind ≡ file_kind }
     ensures ok { OnOk result (SetsBoth shape.now (V.seen v.old).words (V.seen v.new) (V.kept v.new) i.0 (resized (file_bytes shape.now (V.seen v.old).words i.0) len)) }
     ensures space { OnOk result (HasSpace shape.now (V.seen v.old).words (length (file_bytes shape.now (V.seen v.old).words i.0)) len) }
     ensures too_large { IsErrOf result SizeFail.TooLarge → largest_size < len }

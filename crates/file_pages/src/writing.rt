@@ -5,6 +5,7 @@ ghost use Rattle.rio_base.specs.Bitmap.{free_blocks};
 ghost use Rattle.rio_base.specs.Blocks.{EndsBy};
 ghost use Rattle.rio_base.specs.Layout.{IsIno};
 ghost use Rattle.rio_base.specs.Volume.{Goes};
+ghost use Rattle.rio_base.specs.NodeKinds.{file_kind};
 ghost use Rattle.rio_model.specs.FileParts.{written};
 ghost use Rattle.rio_model.specs.Held.{held_of};
 ghost use Rattle.rio_model.specs.Placed.{placed_at, volume_layout};
@@ -36,7 +37,7 @@ fn write_at<V: Volume>(
     requires ready { Ready shape.now (V.seen v.old) (V.kept v.old) }
     requires ino { IsIno shape.now i.0 }
     requires inode { IsInode (V.seen v.old).words i.0 inode.now }
-    requires file { (placed_at (V.seen v.old).words i.0).kind ≡ 2 }
+    requires file { (placed_at (V.seen v.old).words i.0).kind ≡ file_kind }
     requires some { 0 < length bytes.now }
     requires most { off + length bytes.now ≤ largest_size }
     ensures leaves { WriteLeaves shape.now (V.seen v.old) (V.kept v.old) (V.seen v.new) (V.kept v.new) i.0 off bytes.now result }
@@ -72,7 +73,7 @@ pub fn write_at_inode<V: Volume>(
     requires sound { V.sound v.old }
     requires ready { Ready shape.now (V.seen v.old) (V.kept v.old) }
     requires inode { IsInode (V.seen v.old).words i.0 inode.now }
-    requires file { (held_of shape.now (V.seen v.old).words i.0).kind ≡ 2 }
+    requires file { (held_of shape.now (V.seen v.old).words i.0).kind ≡ file_kind }
     ensures value { IfOk result (λ n. n ≡ length bytes.now) }
     ensures ok { OnOk result (SetsBoth shape.now (V.seen v.old).words (V.seen v.new) (V.kept v.new) i.0 (written (file_bytes shape.now (V.seen v.old).words i.0) off bytes.now)) }
     ensures space { OnOk result (HasSpaceFor shape.now (V.seen v.old).words (length (file_bytes shape.now (V.seen v.old).words i.0)) off bytes.now) }
@@ -109,7 +110,7 @@ pub fn write<V: Volume>(
 ) -> Result<u64, WriteFail>
     requires sound { V.sound v.old }
     requires ready { Ready shape.now (V.seen v.old) (V.kept v.old) }
-    requires file { (held_of shape.now (V.seen v.old).words i.0).kind ≡ 2 }
+    requires file { (held_of shape.now (V.seen v.old).words i.0).kind ≡ file_kind }
     ensures value { IfOk result (λ n. n ≡ length bytes.now) }
     ensures ok { OnOk result (SetsBoth shape.now (V.seen v.old).words (V.seen v.new) (V.kept v.new) i.0 (written (file_bytes shape.now (V.seen v.old).words i.0) off bytes.now)) }
     ensures space { OnOk result (HasSpaceFor shape.now (V.seen v.old).words (length (file_bytes shape.now (V.seen v.old).words i.0)) off bytes.now) }

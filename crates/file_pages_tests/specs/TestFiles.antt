@@ -3,6 +3,7 @@ use Rattle.std.specs.Prelude.{◌≡◌, ℕ, ◌<◌, ◌⊎◌, List, length, 
 use Rattle.rio_base.specs.declared.places.VolumeShape.{VolumeShape}
 use Rattle.rio_base.specs.Blocks.{BlockWords, Seen}
 use Rattle.rio_base.specs.Volume.{Kept}
+use Rattle.rio_base.specs.NodeKinds.{free_kind, file_kind}
 use Rattle.rio_model.specs.Held.{held_of}
 use Rattle.rio_model.specs.Placed.{IsFree, volume_layout}
 use Rattle.rio_model.specs.VolumeReady.{Ready, StandsReady}
@@ -13,8 +14,8 @@ abbrev pub IsTestFile : ℕ → Type 0
 IsTestFile i = (i ≡ 2) ⊎ (i ≡ 3)
 
 pub record HasFiles (shape : VolumeShape) (f : BlockWords) : Type 0 where
-  pub file : (i : ℕ) → IsTestFile i → (held_of shape f i).kind ≡ 2
-  pub free : (held_of shape f 4).kind ≡ 0
+  pub file : (i : ℕ) → IsTestFile i → (held_of shape f i).kind ≡ file_kind
+  pub free : (held_of shape f 4).kind ≡ free_kind
 
 -- a volume that may be called, and one that may be started again
 pub record FilesReady (shape : VolumeShape) (x : Seen) (k : Kept) : Type 0 where

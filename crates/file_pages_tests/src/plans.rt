@@ -1,6 +1,7 @@
 //! Changes of size that are prepared: of a file, and of a new node.
 
 ghost use Rattle.std.specs.Prelude.{◌≡◌, ◌≤◌, IfOk};
+ghost use Rattle.rio_base.specs.NodeKinds.{file_kind, region_kind};
 ghost use Rattle.block_alloc.specs.Bitmap.{numbers};
 ghost use Rattle.inode_table.specs.Inodes.{IsInode};
 ghost use Rattle.file_pages_tests.specs.TestFiles.{CanSkip, FilesReady, IsTestFile};
@@ -23,7 +24,7 @@ fn file_inode<V: Volume>(v: &mut V, shape: &VolumeShape, i: Ino) -> Result<Inode
     requires files { FilesReady shape.now (V.seen v.old) (V.kept v.old) }
     requires file { IsTestFile i.0 }
     ensures is { IfOk result (IsInode (V.seen v.new).words i.0) }
-    ensures kind { IfOk result (λ inode. inode.kind ≡ 2) }
+    ensures kind { IfOk result (λ inode. inode.kind ≡ file_kind) }
     ensures words { (V.seen v.new).words ≡ (V.seen v.old).words }
     ensures files { FilesReady shape.now (V.seen v.new) (V.kept v.new) }
     ensures sound { V.sound v.new }
@@ -98,7 +99,7 @@ pub(crate) fn plan_node<V: Volume>(
 ) -> Result<SizeChange, SizeFail>
     requires sound { V.sound v.old }
     requires files { FilesReady shape.now (V.seen v.old) (V.kept v.old) }
-    requires kind { (1 ≤ kind) × (kind ≤ 3) }
+    requires kind { (1 ≤ kind) × (kind ≤ region_kind) }
     requires skip { CanSkip shape.now (V.seen v.old) (numbers skip.now) }
     ensures sound { V.sound v.new }
 {

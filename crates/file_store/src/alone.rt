@@ -16,6 +16,7 @@ ghost use Rattle.request_ends.specs.Failures.{Faulted};
 ghost use Rattle.node_pages.specs.Staging.{Forgets};
 ghost use Rattle.file_tree.specs.Walks.{ino_numbers};
 ghost use Rattle.rio_base.specs.Layout.{IsIno};
+ghost use Rattle.rio_base.specs.NodeKinds.{region_kind};
 ghost use Rattle.node_making.specs.NewNodes.{FindsRegion};
 
 use file_tree::Memo;
@@ -95,7 +96,7 @@ pub fn region_of<V: Volume>(v: &mut V, shape: &VolumeShape, path: &[u8]) -> Resu
     requires can { CanServe shape.now (V.seen v.old) (V.kept v.old) }
     requires path { IsPath path.now }
     ensures found { (s : State) → ReadsAs shape.now (V.seen v.old).words s → FindsRegion s path.now result }
-    ensures region { IfOk result (λ i. (held_of shape.now (V.seen v.old).words i.0).kind ≡ 3) }
+    ensures region { IfOk result (λ i. (held_of shape.now (V.seen v.old).words i.0).kind ≡ region_kind) }
     ensures ino { IfOk result (λ i. IsIno shape.now i.0) }
     ensures leaves { LeavesInUse (volume_layout shape.now (V.seen v.old).words) (V.seen v.old) (V.kept v.old) (V.seen v.new) (V.kept v.new) }
     ensures words { (V.seen v.new).words ≡ (V.seen v.old).words }

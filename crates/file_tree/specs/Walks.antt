@@ -4,6 +4,7 @@ use Rattle.std.specs.FinMap.{get}
 use Rattle.rio_base.specs.declared.places.Ino.{Ino}
 use Rattle.rio_base.specs.declared.places.VolumeShape.{VolumeShape}
 use Rattle.rio_base.specs.Blocks.{BlockWords}
+use Rattle.rio_base.specs.NodeKinds.{dir_kind}
 use Rattle.rio_model.specs.declared.node.Node.TheVariants.{Dir, Region}
 use Rattle.rio_model.specs.declared.node.RegionNode.{RegionNode}
 use Rattle.rio_model.specs.declared.state.State.{State}
@@ -40,7 +41,7 @@ RowComes s names (Err Memory) = ⊥
 
 -- a row, by the blocks: its directory has it, in its slot
 pub record IsRow (shape : VolumeShape) (f : BlockWords) (name : List ℕ) (row : Row) : Type 0 where
-  pub dir : (held_of shape f row.dir.0).kind ≡ 1
+  pub dir : (held_of shape f row.dir.0).kind ≡ dir_kind
   pub entry : IsEntry (held_of shape f row.dir.0) row.slot name row.ino.0
 
 -- the file at the end of a walk: 5 where a directory is there, 7 where a region is

@@ -5,6 +5,7 @@ ghost use Rattle.std.specs.FinMap.{empty};
 ghost use Rattle.rio_base.specs.Blocks.{EndsBy, Looks};
 ghost use Rattle.rio_base.specs.Shapes.{HasShape};
 ghost use Rattle.rio_base.specs.Volume.{Goes};
+ghost use Rattle.rio_base.specs.NodeKinds.{dir_kind};
 ghost use Rattle.rio_model.specs.Held.{held_of};
 ghost use Rattle.rio_model.specs.Placed.{volume_layout};
 ghost use Rattle.rio_model.specs.VolumeReads.{ReadsAs};
@@ -39,7 +40,7 @@ fn scan<V: Blocks>(
     requires shape { HasShape shape.now (V.seen v.old) }
     requires named { AllNamed (volume_layout shape.now (V.seen v.old).words) (V.seen v.old) }
     requires reads { (s : State) × ReadsAs shape.now (V.seen v.old).words s }
-    requires dir { (held_of shape.now (V.seen v.old).words dir.0).kind ≡ 1 }
+    requires dir { (held_of shape.now (V.seen v.old).words dir.0).kind ≡ dir_kind }
     requires inode { IsInode (V.seen v.old).words dir.0 inode.now }
     ensures found { IfOk result (Finds (held_of shape.now (V.seen v.old).words dir.0) name.now) }
     ensures other { Unrefused result }
@@ -67,7 +68,7 @@ fn entry_at<V: Blocks>(
     requires shape { HasShape shape.now (V.seen v.old) }
     requires named { AllNamed (volume_layout shape.now (V.seen v.old).words) (V.seen v.old) }
     requires reads { (s : State) × ReadsAs shape.now (V.seen v.old).words s }
-    requires dir { (held_of shape.now (V.seen v.old).words dir.0).kind ≡ 1 }
+    requires dir { (held_of shape.now (V.seen v.old).words dir.0).kind ≡ dir_kind }
     requires inode { IsInode (V.seen v.old).words dir.0 inode.now }
     ensures found { IfOk result (λ found. IfSome found (λ i. IsEntry (held_of shape.now (V.seen v.old).words dir.0) slot name.now i.0)) }
     ensures other { Unrefused result }
@@ -95,7 +96,7 @@ fn row_near<V: Blocks>(
     requires shape { HasShape shape.now (V.seen v.old) }
     requires named { AllNamed (volume_layout shape.now (V.seen v.old).words) (V.seen v.old) }
     requires reads { (s : State) × ReadsAs shape.now (V.seen v.old).words s }
-    requires dir { (held_of shape.now (V.seen v.old).words dir.0).kind ≡ 1 }
+    requires dir { (held_of shape.now (V.seen v.old).words dir.0).kind ≡ dir_kind }
     requires inode { IsInode (V.seen v.old).words dir.0 inode.now }
     ensures found { IfOk result (Finds (held_of shape.now (V.seen v.old).words dir.0) name.now) }
     ensures other { Unrefused result }
@@ -124,7 +125,7 @@ fn put_names<V: Blocks>(
     requires shape { HasShape shape.now (V.seen v.old) }
     requires named { AllNamed (volume_layout shape.now (V.seen v.old).words) (V.seen v.old) }
     requires reads { (s : State) × ReadsAs shape.now (V.seen v.old).words s }
-    requires dir { (held_of shape.now (V.seen v.old).words dir.0).kind ≡ 1 }
+    requires dir { (held_of shape.now (V.seen v.old).words dir.0).kind ≡ dir_kind }
     requires inode { IsInode (V.seen v.old).words dir.0 inode.now }
     requires blank { names.old ≡ empty }
     ensures all { IfOk result (λ all. all ≡ true → HoldsRows (held_of shape.now (V.seen v.old).words dir.0) names.new) }
@@ -157,7 +158,7 @@ fn hold_dir<V: Blocks>(
     requires named { AllNamed (volume_layout shape.now (V.seen v.old).words) (V.seen v.old) }
     requires reads { (s : State) × ReadsAs shape.now (V.seen v.old).words s }
     requires in_step { InStep shape.now (V.seen v.old).words memo.old }
-    requires dir { (held_of shape.now (V.seen v.old).words dir.0).kind ≡ 1 }
+    requires dir { (held_of shape.now (V.seen v.old).words dir.0).kind ≡ dir_kind }
     requires inode { IsInode (V.seen v.old).words dir.0 inode.now }
     ensures other { Unrefused result }
     ensures in_step { InStep shape.now (V.seen v.old).words memo.new }
@@ -198,7 +199,7 @@ pub fn look_up<V: Blocks>(
     requires named { AllNamed (volume_layout shape.now (V.seen v.old).words) (V.seen v.old) }
     requires reads { (s : State) × ReadsAs shape.now (V.seen v.old).words s }
     requires in_step { InStep shape.now (V.seen v.old).words memo.old }
-    requires dir { (held_of shape.now (V.seen v.old).words dir.0).kind ≡ 1 }
+    requires dir { (held_of shape.now (V.seen v.old).words dir.0).kind ≡ dir_kind }
     requires inode { IsInode (V.seen v.old).words dir.0 inode.now }
     ensures found { IfOk result (Finds (held_of shape.now (V.seen v.old).words dir.0) name.now) }
     ensures other { Unrefused result }
@@ -233,7 +234,7 @@ pub fn look_up_in<V: Volume>(
     requires sound { V.sound v.old }
     requires can { CanServe shape.now (V.seen v.old) (V.kept v.old) }
     requires in_step { InStep shape.now (V.seen v.old).words memo.old }
-    requires dir { (held_of shape.now (V.seen v.old).words dir.0).kind ≡ 1 }
+    requires dir { (held_of shape.now (V.seen v.old).words dir.0).kind ≡ dir_kind }
     ensures found { IfOk result (Finds (held_of shape.now (V.seen v.old).words dir.0) name.now) }
     ensures other { Unrefused result }
     ensures in_step { InStep shape.now (V.seen v.old).words memo.new }

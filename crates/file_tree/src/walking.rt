@@ -4,6 +4,7 @@ ghost use Rattle.std.specs.Prelude.{◌≡◌, ◌<◌, ℕ, [], ◌∷◌, leng
 ghost use Rattle.rio_base.specs.Blocks.{EndsBy, Looks};
 ghost use Rattle.rio_base.specs.Shapes.{HasShape};
 ghost use Rattle.rio_base.specs.Volume.{Goes};
+ghost use Rattle.rio_base.specs.NodeKinds.{dir_kind};
 ghost use Rattle.rio_model.specs.Refusals.{refusal_number};
 ghost use Rattle.rio_model.specs.declared.refusal.Refusal.TheVariants.{NotADirectory, NotFound};
 ghost use Rattle.rio_model.specs.States.{last_of};
@@ -24,8 +25,8 @@ use crate::finding::look_up;
 use crate::memo::Memo;
 use crate::paths::{cut_last, name_end};
 use inode_table::{Inode, read_inode};
-use request_ends::{DIRECTORY, FileFail};
-use rio_base::{Blocks, Ino, Volume, VolumeShape};
+use request_ends::FileFail;
+use rio_base::{Blocks, DIRECTORY, Ino, Volume, VolumeShape};
 use rio_model::Refusal;
 
 /// The root directory.
@@ -75,9 +76,9 @@ fn must_be_dir<V: Blocks>(v: &mut V, shape: &VolumeShape, i: Ino) -> Result<Inod
     requires named { AllNamed (volume_layout shape.now (V.seen v.old).words) (V.seen v.old) }
     requires reads { (s : State) × ReadsAs shape.now (V.seen v.old).words s }
     requires used { 0 < (held_of shape.now (V.seen v.old).words i.0).kind }
-    ensures ok { OnOk result ((held_of shape.now (V.seen v.old).words i.0).kind ≡ 1) }
+    ensures ok { OnOk result ((held_of shape.now (V.seen v.old).words i.0).kind ≡ dir_kind) }
     ensures inode { IfOk result (IsInode (V.seen v.old).words i.0) }
-    ensures refused { Refuses result (refusal_number NotADirectory) ((held_of shape.now (V.seen v.old).words i.0).kind ≡ 1 → ⊥) }
+    ensures refused { Refuses result (refusal_number NotADirectory) ((held_of shape.now (V.seen v.old).words i.0).kind ≡ dir_kind → ⊥) }
     ensures looks { Looks (V.seen v.old) (V.seen v.new) }
     ensures shape { HasShape shape.now (V.seen v.new) }
     ensures named { AllNamed (volume_layout shape.now (V.seen v.old).words) (V.seen v.new) }
@@ -106,7 +107,7 @@ fn row_of<V: Blocks>(
     requires named { AllNamed (volume_layout shape.now (V.seen v.old).words) (V.seen v.old) }
     requires reads { (s : State) × ReadsAs shape.now (V.seen v.old).words s }
     requires in_step { InStep shape.now (V.seen v.old).words memo.old }
-    requires dir { (held_of shape.now (V.seen v.old).words dir.0).kind ≡ 1 }
+    requires dir { (held_of shape.now (V.seen v.old).words dir.0).kind ≡ dir_kind }
     requires inode { IsInode (V.seen v.old).words dir.0 inode.now }
     ensures row { IfOk result (λ row. IsEntry (held_of shape.now (V.seen v.old).words dir.0) row.1 name.now row.0.0) }
     ensures refused { Refuses result (refusal_number NotFound) ((n : ℕ) → HasRow (held_of shape.now (V.seen v.old).words dir.0) name.now n → ⊥) }
@@ -224,7 +225,7 @@ fn dir_at<V: Volume>(
     requires can { CanServe shape.now (V.seen v.old) (V.kept v.old) }
     requires in_step { InStep shape.now (V.seen v.old).words memo.old }
     ensures value { (s : State) → ReadsAs shape.now (V.seen v.old).words s → Comes (walk_to_dir_of s (names_of path.now)) (ino_in result) }
-    ensures dir { IfOk result (λ at. (held_of shape.now (V.seen v.old).words at.0.0).kind ≡ 1) }
+    ensures dir { IfOk result (λ at. (held_of shape.now (V.seen v.old).words at.0.0).kind ≡ dir_kind) }
     ensures inode { IfOk result (λ at. IsInode (V.seen v.old).words at.0.0 at.1) }
     ensures in_step { InStep shape.now (V.seen v.old).words memo.new }
     ensures leaves { LeavesInUse (volume_layout shape.now (V.seen v.old).words) (V.seen v.old) (V.kept v.old) (V.seen v.new) (V.kept v.new) }
@@ -250,7 +251,7 @@ pub fn walk_to_dir<V: Volume>(
     requires can { CanServe shape.now (V.seen v.old) (V.kept v.old) }
     requires in_step { InStep shape.now (V.seen v.old).words memo.old }
     ensures value { (s : State) → ReadsAs shape.now (V.seen v.old).words s → Comes (walk_to_dir_of s (names_of path.now)) result }
-    ensures dir { IfOk result (λ i. (held_of shape.now (V.seen v.old).words i.0).kind ≡ 1) }
+    ensures dir { IfOk result (λ i. (held_of shape.now (V.seen v.old).words i.0).kind ≡ dir_kind) }
     ensures in_step { InStep shape.now (V.seen v.old).words memo.new }
     ensures leaves { LeavesInUse (volume_layout shape.now (V.seen v.old).words) (V.seen v.old) (V.kept v.old) (V.seen v.new) (V.kept v.new) }
     ensures words { (V.seen v.new).words ≡ (V.seen v.old).words }
@@ -275,7 +276,7 @@ pub fn dir_without<V: Volume>(
     requires can { CanServe shape.now (V.seen v.old) (V.kept v.old) }
     requires in_step { InStep shape.now (V.seen v.old).words memo.old }
     ensures value { (s : State) → ReadsAs shape.now (V.seen v.old).words s → FreeRow s (names_of path.now) name.now result }
-    ensures dir { IfOk result (λ i. (held_of shape.now (V.seen v.old).words i.0).kind ≡ 1) }
+    ensures dir { IfOk result (λ i. (held_of shape.now (V.seen v.old).words i.0).kind ≡ dir_kind) }
     ensures absent { IfOk result (λ i. (n : ℕ) → HasRow (held_of shape.now (V.seen v.old).words i.0) name.now n → ⊥) }
     ensures in_step { InStep shape.now (V.seen v.old).words memo.new }
     ensures leaves { LeavesInUse (volume_layout shape.now (V.seen v.old).words) (V.seen v.old) (V.kept v.old) (V.seen v.new) (V.kept v.new) }

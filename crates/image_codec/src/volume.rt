@@ -7,14 +7,11 @@ ghost use Rattle.rio_base.specs.Shapes.{IsServed, reserved};
 ghost use Rattle.rio_base.specs.Bytes.{bytes_of};
 ghost use Rattle.image_codec.specs.Volume.{bitmap_word, block_words, fresh_volume_words};
 
-use rio_base::{BLOCK_WORDS, VOLUME_MAGIC, VolumeShape};
+use rio_base::{BLOCK_WORDS, Kind, VOLUME_MAGIC, VolumeShape};
 use std::alloc::{AllocError, Global};
 
 /// The version of the volume's layout.
 const VOLUME_VERSION: u64 = 1;
-
-/// The kind of an inode that is a directory.
-const KIND_DIRECTORY: u64 = 1;
 
 /// Word `at` of a bitmap whose first `count` blocks are used.
 fn used_word(count: u32, at: usize) -> u64
@@ -46,7 +43,7 @@ fn write_volume(words: &mut [u64], shape: &VolumeShape)
     words[1] = VOLUME_VERSION;
     words[2] = shape.blocks as u64;
     words[3] = shape.inodes as u64;
-    words[2 * BLOCK_WORDS] = KIND_DIRECTORY;
+    words[2 * BLOCK_WORDS] = Kind::Directory as u64;
 }
 
 /// The words of a volume that has nothing but an empty root directory: the superblock, a bitmap with the reserved blocks

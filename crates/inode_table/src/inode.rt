@@ -23,7 +23,7 @@ const FIRST_BLOCK: u32 = 2;
 /// An inode. Numbers that its size does not reach may be anything.
 #[derive(Clone, Copy, Debug, PartialEq, Eq)]
 pub struct Inode {
-    /// 0 for a free inode, 1 for a directory, 2 for a file, 3 for a region.
+    /// The number of its [`rio_base::Kind`], or 0 where it is free.
     pub kind: u8,
     /// Its size in bytes.
     pub size: u64,

@@ -8,6 +8,7 @@ use Rattle.rio_base.specs.declared.places.PageName.{PageName}
 use Rattle.rio_base.specs.declared.places.VolumeShape.{VolumeShape}
 use Rattle.rio_base.specs.Blocks.{BlockWords, Seen}
 use Rattle.rio_base.specs.Volume.{Kept}
+use Rattle.rio_base.specs.NodeKinds.{dir_kind, file_kind, region_kind}
 use Rattle.rio_model.specs.declared.node.Node.TheVariants.{Region}
 use Rattle.rio_model.specs.declared.node.RegionNode.{RegionNode}
 use Rattle.rio_model.specs.declared.state.State.{State}
@@ -68,7 +69,7 @@ new_held undo pages = record { kind = 3; size = 8 * region_words undo pages; wor
 pub record PlansRegion (shape : VolumeShape) (f : BlockWords) (y : Seen) (j : Kept) (i : ℕ) (r : RegionSizes) (skip : List ℕ) (c : NodeChange) : Type 0 where
   pub ino : c.ino.0 ≡ i
   pub node : Placed
-  pub kind : node.kind ≡ 3
+  pub kind : node.kind ≡ region_kind
   pub turns : Turns shape (placed_at f i) node (change_update c)
   pub from : (s : Slot) → HasSlot node s → IsFree (volume_layout shape f) (node.block s)
   pub beside : (s : Slot) → HasSlot node s → Contains skip (node.block s) → ⊥
@@ -97,5 +98,5 @@ node_made (Sized sizes) = Region (new_region sizes.data_pages sizes.undo_pages)
 
 -- a directory or a file, or a region of sizes that a node may have
 abbrev pub FitsNode : NewNode → Type 0
-FitsNode (Bare kind) = (kind ≡ 1) ⊎ (kind ≡ 2)
+FitsNode (Bare kind) = (kind ≡ dir_kind) ⊎ (kind ≡ file_kind)
 FitsNode (Sized sizes) = FitRegion sizes

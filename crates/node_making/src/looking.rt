@@ -3,6 +3,7 @@
 ghost use Rattle.std.specs.Prelude.{◌≡◌, ◌*◌, IfOk, IsErrOf};
 ghost use Rattle.rio_base.specs.Blocks.{EndsBy};
 ghost use Rattle.rio_base.specs.Volume.{Goes};
+ghost use Rattle.rio_base.specs.NodeKinds.{region_kind};
 ghost use Rattle.rio_model.specs.Held.{held_of};
 ghost use Rattle.rio_model.specs.Placed.{volume_layout};
 ghost use Rattle.rio_model.specs.VolumeReads.{ReadsAs};
@@ -19,8 +20,8 @@ use directories::names;
 use file_tree::{Memo, node_inode, walk, walk_to_dir};
 use name_list::NameList;
 use node_pages::block_of;
-use request_ends::{FileFail, REGION};
-use rio_base::{Ino, PAGE_BYTES, PageName, Volume, VolumeShape};
+use request_ends::FileFail;
+use rio_base::{Ino, PAGE_BYTES, PageName, REGION, Volume, VolumeShape};
 use std::alloc::Global;
 
 /// The word of a region's header that has the number of its data pages.
@@ -30,7 +31,7 @@ const DATA_PAGES: u16 = 2;
 fn region_bytes<V: Volume>(v: &mut V, shape: &VolumeShape, i: Ino) -> Result<u64, FileFail>
     requires sound { V.sound v.old }
     requires can { CanServe shape.now (V.seen v.old) (V.kept v.old) }
-    requires region { (held_of shape.now (V.seen v.old).words i.0).kind ≡ 3 }
+    requires region { (held_of shape.now (V.seen v.old).words i.0).kind ≡ region_kind }
     ensures value { IfOk result (λ n. n ≡ 4096 * (held_of shape.now (V.seen v.old).words i.0).word 2) }
     ensures other { Unrefused result }
     ensures leaves { LeavesInUse (volume_layout shape.now (V.seen v.old).words) (V.seen v.old) (V.kept v.old) (V.seen v.new) (V.kept v.new) }

@@ -4,6 +4,7 @@ ghost use Rattle.std.specs.Prelude.{◌≡◌, ◌⊎◌, ℕ, Some, IsErrOf, On
 ghost use Rattle.rio_base.specs.Blocks.{EndsBy};
 ghost use Rattle.rio_base.specs.Layout.{IsIno};
 ghost use Rattle.rio_base.specs.Volume.{Goes};
+ghost use Rattle.rio_base.specs.NodeKinds.{free_kind, dir_kind, file_kind};
 ghost use Rattle.rio_model.specs.Held.{held_of};
 ghost use Rattle.rio_model.specs.Paths.{IsName, IsPath, names_of};
 ghost use Rattle.rio_model.specs.VolumeReads.{ReadsAs};
@@ -21,8 +22,8 @@ use crate::new_nodes::{NewNode, make_new};
 use directories::plan_add;
 use file_tree::{Memo, cut_last, dir_without, is_root};
 use node_updates::{NodeChange, commit_planned, node_made};
-use request_ends::{DIRECTORY, FILE, FileFail};
-use rio_base::{Ino, Volume, VolumeShape};
+use request_ends::FileFail;
+use rio_base::{DIRECTORY, FILE, Ino, Volume, VolumeShape};
 use rio_model::Refusal;
 use std::alloc::Global;
 
@@ -38,12 +39,12 @@ pub fn make_row<V: Volume>(
 ) -> Result<(), FileFail>
     requires sound { V.sound v.old }
     requires can { CanServe shape.now (V.seen v.old) (V.kept v.old) }
-    requires dir { (held_of shape.now (V.seen v.old).words dir.0).kind ≡ 1 }
+    requires dir { (held_of shape.now (V.seen v.old).words dir.0).kind ≡ dir_kind }
     requires is_name { IsName name.now }
     requires absent { (n : ℕ) → HasRow (held_of shape.now (V.seen v.old).words dir.0) name.now n → ⊥ }
     requires ino { IsIno shape.now i.0 }
-    requires free { (held_of shape.now (V.seen v.old).words i.0).kind ≡ 0 }
-    requires kind { (kind ≡ 1) ⊎ (kind ≡ 2) }
+    requires free { (held_of shape.now (V.seen v.old).words i.0).kind ≡ free_kind }
+    requires kind { (kind ≡ dir_kind) ⊎ (kind ≡ file_kind) }
     ensures leaves { (s : State) → ReadsAs shape.now (V.seen v.old).words s → FileEnds (SaysNumber i.0) shape.now (V.seen v.old) (V.kept v.old) (V.seen v.new) (V.kept v.new) s (make_new_of s dir.0 name.now (empty_node kind) (Some i.0)) (NoneDone s) result }
     ensures forgets { OnOk result (Forgets (volume_layout shape.now (V.seen v.old).words) (volume_layout shape.now (V.seen v.new).words) (V.seen v.new)) }
     ensures goes { Goes (V.health v.old) (V.below v.old) (V.health v.new) (V.below v.new) }
@@ -68,7 +69,7 @@ fn make<V: Volume>(
     requires can { CanServe shape.now (V.seen v.old) (V.kept v.old) }
     requires in_step { InStep shape.now (V.seen v.old).words memo.old }
     requires path { IsPath path.now }
-    requires kind { (kind ≡ 1) ⊎ (kind ≡ 2) }
+    requires kind { (kind ≡ dir_kind) ⊎ (kind ≡ file_kind) }
     ensures leaves { (s : State) → ReadsAs shape.now (V.seen v.old).words s → FileEnds SaysIno shape.now (V.seen v.old) (V.kept v.old) (V.seen v.new) (V.kept v.new) s (make_of s (names_of path.now) (empty_node kind)) (NoneDone s) result }
     ensures in_step { (IsErrOf result FileFail.Stopped → ⊥) → InStep shape.now (V.seen v.new).words memo.new }
     ensures forgets { OnOk result (Forgets (volume_layout shape.now (V.seen v.old).words) (volume_layout shape.now (V.seen v.new).words) (V.seen v.new)) }

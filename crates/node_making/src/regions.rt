@@ -4,6 +4,7 @@ ghost use Rattle.std.specs.Prelude.{◌≡◌, ◌<◌, ◌≤◌, ℕ, false, l
 ghost use Rattle.rio_base.specs.Blocks.{CanName, Ends, EndsBy};
 ghost use Rattle.rio_base.specs.Layout.{IsIno, inode_kind};
 ghost use Rattle.rio_base.specs.Volume.{CachesStored, Firm, Goes, SameBut, put_run};
+ghost use Rattle.rio_base.specs.NodeKinds.{dir_kind, region_kind};
 ghost use Rattle.block_alloc.specs.Bitmap.{numbers};
 ghost use Rattle.rio_model.specs.declared.node.Node.TheVariants.{Region};
 ghost use Rattle.rio_model.specs.declared.state.State.{State};
@@ -31,9 +32,9 @@ use file_tree::{Memo, cut_last, dir_without, is_root, node_inode, walk};
 use inode_table::Inode;
 use node_pages::{SizeFail, plan_size};
 use node_updates::{NodeChange, commit_planned, empty_inode, node_sized};
-use request_ends::{FileFail, REGION};
+use request_ends::FileFail;
 use rio_base::{
-    Block, BlockList, Ino, PAGE_BYTES, PageName, REGION_MAGIC, RunFail, VolFail, Volume,
+    Block, BlockList, Ino, PAGE_BYTES, PageName, REGION, REGION_MAGIC, RunFail, VolFail, Volume,
     VolumeShape,
 };
 use rio_model::Refusal;
@@ -156,7 +157,7 @@ pub fn make_region_row<V: Volume>(
 ) -> Result<(), FileFail>
     requires sound { V.sound v.old }
     requires can { CanServe shape.now (V.seen v.old) (V.kept v.old) }
-    requires dir { (held_of shape.now (V.seen v.old).words dir.0).kind ≡ 1 }
+    requires dir { (held_of shape.now (V.seen v.old).words dir.0).kind ≡ dir_kind }
     requires is_name { IsName name.now }
     requires absent { (n : ℕ) → HasRow (held_of shape.now (V.seen v.old).words dir.0) name.now n → ⊥ }
     requires ino { IsIno shape.now i.0 }
@@ -220,7 +221,7 @@ pub fn region_at<V: Volume>(
     requires in_step { InStep shape.now (V.seen v.old).words memo.old }
     requires path { IsPath path.now }
     ensures found { (s : State) → ReadsAs shape.now (V.seen v.old).words s → FindsRegion s path.now (ino_in result) }
-    ensures region { IfOk result (λ at. (held_of shape.now (V.seen v.old).words at.0.0).kind ≡ 3) }
+    ensures region { IfOk result (λ at. (held_of shape.now (V.seen v.old).words at.0.0).kind ≡ region_kind) }
     ensures ino { IfOk result (λ at. IsIno shape.now at.0.0) }
     ensures inode { IfOk result (λ at. IsInode (V.seen v.old).words at.0.0 at.1) }
     ensures in_step { InStep shape.now (V.seen v.old).words memo.new }

@@ -3,6 +3,7 @@
 ghost use Rattle.std.specs.Prelude.{◌≡◌, ◌≢◌, ◌<◌, ℕ, List, IsErrOf, OnOk};
 ghost use Rattle.rio_base.specs.Blocks.{EndsBy};
 ghost use Rattle.rio_base.specs.Volume.{Goes};
+ghost use Rattle.rio_base.specs.NodeKinds.{dir_kind};
 ghost use Rattle.rio_requests.specs.Answer.{answered};
 ghost use Rattle.rio_model.specs.Held.{held_of};
 ghost use Rattle.rio_model.specs.Paths.{IsName};
@@ -24,8 +25,8 @@ use directories::{plan_add, plan_remove, plan_replace, plan_set};
 use file_tree::{Row, inode_of};
 use node_pages::blocks_of;
 use node_updates::{NodeChange, commit_planned, node_gone};
-use request_ends::{DIRECTORY, FileFail};
-use rio_base::{Ino, InoList, Volume, VolumeShape};
+use request_ends::FileFail;
+use rio_base::{DIRECTORY, Ino, InoList, Volume, VolumeShape};
 use rio_model::Refusal;
 use std::alloc::Global;
 
@@ -67,7 +68,7 @@ fn move_across<V: Volume>(
     requires can { CanServe shape.now (V.seen v.old) (V.kept v.old) }
     requires from { (a : List ℕ) × IsRow shape.now (V.seen v.old).words a from }
     requires used { 0 < (held_of shape.now (V.seen v.old).words from.ino.0).kind }
-    requires dir { (held_of shape.now (V.seen v.old).words dir.0).kind ≡ 1 }
+    requires dir { (held_of shape.now (V.seen v.old).words dir.0).kind ≡ dir_kind }
     requires two { from.dir.0 ≢ dir.0 }
     requires is_name { IsName name.now }
     requires absent { (n : ℕ) → HasRow (held_of shape.now (V.seen v.old).words dir.0) name.now n → ⊥ }
@@ -96,7 +97,7 @@ pub fn move_row<V: Volume>(
     requires can { CanServe shape.now (V.seen v.old) (V.kept v.old) }
     requires from { (a : List ℕ) × IsRow shape.now (V.seen v.old).words a from }
     requires used { 0 < (held_of shape.now (V.seen v.old).words from.ino.0).kind }
-    requires dir { (held_of shape.now (V.seen v.old).words dir.0).kind ≡ 1 }
+    requires dir { (held_of shape.now (V.seen v.old).words dir.0).kind ≡ dir_kind }
     requires is_name { IsName name.now }
     requires absent { (n : ℕ) → HasRow (held_of shape.now (V.seen v.old).words dir.0) name.now n → ⊥ }
     ensures leaves { (s : State) (a : List ℕ) → ReadsAs shape.now (V.seen v.old).words s → IsRow shape.now (V.seen v.old).words a from → OutOfReach s from.ino.0 dir.0 → FileEnds SaysDone shape.now (V.seen v.old) (V.kept v.old) (V.seen v.new) (V.kept v.new) s (move_row_of s from.dir.0 a dir.0 name.now from.ino.0) (NoneDone s) result }

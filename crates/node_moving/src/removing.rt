@@ -3,6 +3,7 @@
 ghost use Rattle.std.specs.Prelude.{◌≡◌, ◌<◌, ◌==◌, ◌&&◌, ℕ, List, IsErrOf, OnOk};
 ghost use Rattle.rio_base.specs.Blocks.{EndsBy};
 ghost use Rattle.rio_base.specs.Volume.{Goes};
+ghost use Rattle.rio_base.specs.NodeKinds.{dir_kind, region_kind};
 ghost use Rattle.rio_requests.specs.Answer.{answered};
 ghost use Rattle.rio_model.specs.Held.{held_of};
 ghost use Rattle.rio_model.specs.VolumeReads.{ReadsAs};
@@ -23,8 +24,8 @@ use file_tree::{Memo, Row, cut_last, is_root, node_inode, walk_to_row};
 use inode_table::Inode;
 use node_pages::blocks_of;
 use node_updates::{NodeChange, commit_planned, node_gone};
-use request_ends::{DIRECTORY, FileFail, REGION};
-use rio_base::{Ino, InoList, Volume, VolumeShape};
+use request_ends::FileFail;
+use rio_base::{DIRECTORY, Ino, InoList, REGION, Volume, VolumeShape};
 use rio_model::Refusal;
 use std::alloc::Global;
 
@@ -42,7 +43,7 @@ fn is_among(busy: &[Ino], i: Ino) -> bool
 
 /// Whether a node, which has this inode, is a region with an open transaction.
 pub fn is_open(busy: &InoList, i: Ino, inode: &Inode) -> bool
-    ensures { result ≡ ((inode.now.kind == 3) && is_among_of (ino_numbers busy.now) i.0) }
+    ensures { result ≡ ((inode.now.kind == region_kind) && is_among_of (ino_numbers busy.now) i.0) }
 {
     inode.kind == REGION && is_among(busy.as_slice(), i)
 }
@@ -58,7 +59,7 @@ fn remove_row<V: Volume>(
     requires can { CanServe shape.now (V.seen v.old) (V.kept v.old) }
     requires row { (name : List ℕ) × IsRow shape.now (V.seen v.old).words name row }
     requires used { 0 < (held_of shape.now (V.seen v.old).words row.ino.0).kind }
-    requires bare { (held_of shape.now (V.seen v.old).words row.ino.0).kind ≡ 1 → (held_of shape.now (V.seen v.old).words row.ino.0).size ≡ 0 }
+    requires bare { (held_of shape.now (V.seen v.old).words row.ino.0).kind ≡ dir_kind → (held_of shape.now (V.seen v.old).words row.ino.0).size ≡ 0 }
     ensures leaves { (s : State) (name : List ℕ) → ReadsAs shape.now (V.seen v.old).words s → IsRow shape.now (V.seen v.old).words name row → FileEnds SaysDone shape.now (V.seen v.old) (V.kept v.old) (V.seen v.new) (V.kept v.new) s (answered (without s row.dir.0 name row.ino.0) Done) (NoneDone s) result }
     ensures forgets { OnOk result (Forgets (volume_layout shape.now (V.seen v.old).words) (volume_layout shape.now (V.seen v.new).words) (V.seen v.new)) }
     ensures goes { Goes (V.health v.old) (V.below v.old) (V.health v.new) (V.below v.new) }
@@ -85,7 +86,7 @@ fn take_row<V: Volume>(
     requires in_step { InStep shape.now (V.seen v.old).words memo.old }
     requires row { IsRow shape.now (V.seen v.old).words name.now row }
     requires used { 0 < (held_of shape.now (V.seen v.old).words row.ino.0).kind }
-    requires bare { (held_of shape.now (V.seen v.old).words row.ino.0).kind ≡ 1 → (held_of shape.now (V.seen v.old).words row.ino.0).size ≡ 0 }
+    requires bare { (held_of shape.now (V.seen v.old).words row.ino.0).kind ≡ dir_kind → (held_of shape.now (V.seen v.old).words row.ino.0).size ≡ 0 }
     ensures leaves { (s : State) → ReadsAs shape.now (V.seen v.old).words s → FileEnds SaysDone shape.now (V.seen v.old) (V.kept v.old) (V.seen v.new) (V.kept v.new) s (answered (without s row.dir.0 name.now row.ino.0) Done) (NoneDone s) result }
     ensures in_step { (IsErrOf result FileFail.Stopped → ⊥) → InStep shape.now (V.seen v.new).words memo.new }
     ensures forgets { OnOk result (Forgets (volume_layout shape.now (V.seen v.old).words) (volume_layout shape.now (V.seen v.new).words) (V.seen v.new)) }

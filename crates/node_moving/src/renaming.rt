@@ -4,6 +4,7 @@ ghost use Rattle.std.specs.Prelude.{◌≡◌, ◌<◌, ℕ, IsErrOf, OnOk};
 ghost use Rattle.std.specs.FinMap.{get};
 ghost use Rattle.rio_base.specs.Blocks.{EndsBy};
 ghost use Rattle.rio_base.specs.Volume.{Goes};
+ghost use Rattle.rio_base.specs.NodeKinds.{dir_kind};
 ghost use Rattle.rio_model.specs.Held.{held_of};
 ghost use Rattle.rio_model.specs.Paths.{IsName, IsPath};
 ghost use Rattle.rio_model.specs.VolumeReads.{ReadsAs};
@@ -44,7 +45,7 @@ fn move_to<V: Volume>(
     requires in_step { InStep shape.now (V.seen v.old).words memo.old }
     requires from { IsRow shape.now (V.seen v.old).words old.now from }
     requires used { 0 < (held_of shape.now (V.seen v.old).words from.ino.0).kind }
-    requires dir { (held_of shape.now (V.seen v.old).words dir.0).kind ≡ 1 }
+    requires dir { (held_of shape.now (V.seen v.old).words dir.0).kind ≡ dir_kind }
     requires is_name { IsName name.now }
     requires absent { (n : ℕ) → HasRow (held_of shape.now (V.seen v.old).words dir.0) name.now n → ⊥ }
     requires out { (s : State) → ReadsAs shape.now (V.seen v.old).words s → OutOfReach s from.ino.0 dir.0 }
@@ -118,7 +119,7 @@ fn rename_row<V: Volume>(
     requires in_step { InStep shape.now (V.seen v.old).words memo.old }
     requires from { IsRow shape.now (V.seen v.old).words old.now from }
     requires used { 0 < (held_of shape.now (V.seen v.old).words from.ino.0).kind }
-    requires dir { (held_of shape.now (V.seen v.old).words dir.0).kind ≡ 1 }
+    requires dir { (held_of shape.now (V.seen v.old).words dir.0).kind ≡ dir_kind }
     requires is_name { IsName name.now }
     requires out { (s : State) → ReadsAs shape.now (V.seen v.old).words s → OutOfReach s from.ino.0 dir.0 }
     ensures leaves { (s : State) → ReadsAs shape.now (V.seen v.old).words s → FileEnds SaysDone shape.now (V.seen v.old) (V.kept v.old) (V.seen v.new) (V.kept v.new) s (rename_row_of s (ino_numbers busy.now) from.dir.0 old.now dir.0 name.now from.ino.0 (get s.names (dir.0, name.now))) (NoneDone s) result }

@@ -7,6 +7,7 @@ use Rattle.rio_base.specs.Bitmap.{free_blocks}
 use Rattle.rio_base.specs.Blocks.{BlockWords, Seen}
 use Rattle.rio_base.specs.Layout.{inode_kind}
 use Rattle.rio_base.specs.Volume.{Kept}
+use Rattle.rio_base.specs.NodeKinds.{free_kind, region_kind}
 use Rattle.rio_model.specs.NodeChanges.{Available, Takes, grown}
 use Rattle.rio_model.specs.Placed.{Slot, AtTable, Placed, HasSlot, Layout, placed_at, volume_layout, IsFree}
 use Rattle.rio_model.specs.Sizes.{blocks_for}
@@ -47,7 +48,7 @@ size_update i c = node_update i c.inode c.edits c.taken c.freed
 
 -- the inode for which a change is prepared: inode i as it is, or that of a new node without bytes where inode i is free
 abbrev pub PlansFor : BlockWords → ℕ → Inode → Type 0
-PlansFor f i given = (IsInode f i given × (0 < given.kind)) ⊎ ((inode_kind f i ≡ 0) × (given.size ≡ 0) × (1 ≤ given.kind) × (given.kind ≤ 3))
+PlansFor f i given = (IsInode f i given × (0 < given.kind)) ⊎ ((inode_kind f i ≡ free_kind) × (given.size ≡ 0) × (1 ≤ given.kind) × (given.kind ≤ region_kind))
 
 -- the node as this inode says it
 abbrev pub given_node : BlockWords → ℕ → Inode → Placed

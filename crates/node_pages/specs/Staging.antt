@@ -5,6 +5,7 @@ use Rattle.rio_base.specs.declared.places.PageName.{PageName}
 use Rattle.rio_base.specs.BlockSets.{CachesBy, FirmOutside, SameOutside}
 use Rattle.rio_base.specs.Blocks.{Seen}
 use Rattle.rio_base.specs.Volume.{Kept}
+use Rattle.rio_base.specs.NodeKinds.{dir_kind}
 use Rattle.rio_model.specs.Placed.{Layout, Owned}
 
 -- nothing differs outside a set of blocks: no word, read or standing, no block is loose there that was not, and none is
@@ -19,7 +20,7 @@ pub record Beside (inside : ℕ → Type 0) (x : Seen) (k : Kept) (y : Seen) (j 
 -- the name of the t-th block that a node takes: of page first + t, and none for a directory's, and behind the pages, where
 -- it is a table
 abbrev pub taken_name : ℕ → ℕ → ℕ → ℕ → ℕ → ℕ → Option PageName
-taken_name i kind first count len t = if (kind == 1) || nat_le count t then None else Some (record { file = record { 0 = i }; index = first + t; size = min 4096 (len - 4096 * (first + t)) })
+taken_name i kind first count len t = if (kind == dir_kind) || nat_le count t then None else Some (record { file = record { 0 = i }; index = first + t; size = min 4096 (len - 4096 * (first + t)) })
 
 -- the first n of these blocks read as zeros, are not loose, and bear these names where they are cached
 pub record Zeroed (taken : List ℕ) (name : ℕ → Option PageName) (n : ℕ) (y : Seen) (j : Kept) : Type 0 where

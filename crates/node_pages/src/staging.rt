@@ -8,7 +8,7 @@ ghost use Rattle.block_alloc.specs.Bitmap.{numbers};
 ghost use Rattle.node_pages.specs.Changes.{Apart};
 ghost use Rattle.node_pages.specs.Staging.{Beside, Zeroed, taken_name};
 
-use rio_base::{Block, Ino, PAGE_BYTES, PageName, VolFail, Volume};
+use rio_base::{Block, DIRECTORY, Ino, PAGE_BYTES, PageName, VolFail, Volume};
 
 /// Bytes of page `index` that a node of `len` bytes uses.
 pub fn bytes_in_page(len: u64, index: u32) -> u32
@@ -28,7 +28,7 @@ fn name_of(file: Ino, kind: u8, first: u32, count: u32, len: u64, t: u32) -> Opt
     ensures name { result ≡ taken_name file.0 kind first count len t }
     ensures range { InRange result }
 {
-    if kind == 1 || t >= count {
+    if kind == DIRECTORY || t >= count {
         return None;
     }
     let index = first + t;

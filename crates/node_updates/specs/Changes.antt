@@ -9,6 +9,7 @@ use Rattle.rio_base.specs.declared.places.VolumeShape.{VolumeShape}
 use Rattle.rio_base.specs.Blocks.{BlockWords, Seen}
 use Rattle.rio_base.specs.Layout.{IsIno, inode_block}
 use Rattle.rio_base.specs.Volume.{Kept}
+use Rattle.rio_base.specs.NodeKinds.{free_kind}
 use Rattle.block_alloc.specs.Bitmap.{numbers}
 use Rattle.node_pages.specs.declared.changes.Edit.{Edit}
 use Rattle.node_pages.specs.declared.changes.SizeChange.{SizeChange}
@@ -95,7 +96,7 @@ pub record IsMade (i kind : ℕ) (c : NodeChange) : Type 0 where
 -- a node that goes, and these blocks with it
 pub record IsGone (i : ℕ) (blocks : List Block) (c : NodeChange) : Type 0 where
   pub ino : c.ino.0 ≡ i
-  pub kind_is : c.inode.kind ≡ 0
+  pub kind_is : c.inode.kind ≡ free_kind
   pub size : c.inode.size ≡ 0
   pub edits : c.edits ≡ []
   pub taken : c.taken ≡ []

@@ -6,8 +6,7 @@ ghost use Rattle.node_updates.specs.Changes.{IsGone, IsMade, of_size};
 use directories::DirChange;
 use inode_table::Inode;
 use node_pages::{EditList, SizeChange};
-use request_ends::FREE;
-use rio_base::{BlockList, Ino};
+use rio_base::{BlockList, FREE, Ino};
 use std::alloc::Global;
 
 /// A change of one node that is prepared and not yet made.

@@ -4,11 +4,12 @@ use Rattle.std.specs.List.{range_with_len}
 use Rattle.rio_base.specs.declared.places.Ino.{Ino}
 use Rattle.rio_base.specs.declared.places.VolumeShape.{VolumeShape}
 use Rattle.rio_base.specs.Blocks.{BlockWords}
+use Rattle.rio_base.specs.NodeKinds.{region_kind}
 use Rattle.rio_model.specs.Held.{held_of}
 use Rattle.rio_model.specs.Undo.{UndoRecord, undo_records}
 
 abbrev pub is_region : VolumeShape → BlockWords → ℕ → Bool
-is_region shape f i = (held_of shape f i).kind == 3
+is_region shape f i = (held_of shape f i).kind == region_kind
 
 -- the inodes of all regions, in order
 unfoldable pub region_inos : VolumeShape → BlockWords → List ℕ
@@ -33,4 +34,4 @@ undone_count shape f = length (filter (has_records shape f) (region_inos shape f
 
 -- no region has one
 abbrev pub AreRecovered : VolumeShape → BlockWords → Type 0
-AreRecovered shape f = (i : ℕ) → (held_of shape f i).kind ≡ 3 → undo_records (held_of shape f i).word ≡ []
+AreRecovered shape f = (i : ℕ) → (held_of shape f i).kind ≡ region_kind → undo_records (held_of shape f i).word ≡ []

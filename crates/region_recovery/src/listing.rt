@@ -12,11 +12,8 @@ ghost use Rattle.inode_table.specs.Inodes.{IsMetadata};
 ghost use Rattle.region_recovery.specs.RegionLists.{ino_numbers, is_region, region_inos};
 
 use inode_table::read_inode;
-use rio_base::{Blocks, Ino, ReadFail, VolFail, VolumeShape};
+use rio_base::{Blocks, Ino, REGION, ReadFail, VolFail, VolumeShape};
 use std::alloc::Global;
-
-/// The kind of a region's inode.
-const REGION: u8 = 3;
 
 /// The regions of a volume whose inodes have kinds that there are, in order. `Memory` means that there was no room for the
 /// list, `Fault` and `Stopped` are those of reading the inodes.

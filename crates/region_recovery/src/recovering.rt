@@ -4,6 +4,7 @@ ghost use Rattle.std.specs.Prelude.{◌≡◌, ◌<◌, ◌+◌, ◌/◌, [], �
 ghost use Rattle.rio_base.specs.Blocks.{Ends};
 ghost use Rattle.rio_base.specs.Layout.{IsIno};
 ghost use Rattle.rio_base.specs.Volume.{Goes};
+ghost use Rattle.rio_base.specs.NodeKinds.{region_kind};
 ghost use Rattle.rio_model.specs.declared.state.State.{State};
 ghost use Rattle.rio_model.specs.Held.{held_of};
 ghost use Rattle.rio_model.specs.RegionMoves.{RestHeld};
@@ -48,7 +49,7 @@ fn recover_region<V: Volume>(view: &mut RegionView<V>, i: Ino) -> Result<bool, V
     requires ready { Ready view.old.shape (V.seen view.old.v) (V.kept view.old.v) }
     requires reads { (s : State) × ReadsAs view.old.shape (V.seen view.old.v).words s }
     requires ino { IsIno view.old.shape i.0 }
-    requires region { (held_of view.old.shape (V.seen view.old.v).words i.0).kind ≡ 3 }
+    requires region { (held_of view.old.shape (V.seen view.old.v).words i.0).kind ≡ region_kind }
     ensures reads { (s : State) → ReadsAs view.old.shape (V.seen view.old.v).words s → ReadsAs view.old.shape (V.seen view.new.v).words s }
     ensures recovered { OnOk result (undo_records (held_of view.old.shape (V.seen view.new.v).words i.0).word ≡ []) }
     ensures held { IfOk result (λ b. b ≡ has_records view.old.shape (V.seen view.old.v).words i.0) }

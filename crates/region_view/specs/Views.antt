@@ -9,6 +9,7 @@ use Rattle.rio_base.specs.Blocks.{BlockWords, Seen}
 use Rattle.rio_base.specs.Layout.{IsIno}
 use Rattle.rio_base.specs.Shapes.{HasShape}
 use Rattle.rio_base.specs.Volume.{Kept}
+use Rattle.rio_base.specs.NodeKinds.{region_kind}
 use Rattle.rio_model.specs.Held.{Held, held, held_ino, held_of}
 use Rattle.rio_model.specs.Placed.{AtPage, Owns, placed_at, volume_layout}
 use Rattle.rio_model.specs.RegionMoves.{RestHeld, rest_refl, rest_trans}
@@ -27,7 +28,7 @@ pub record CanRead (shape : VolumeShape) (x : Seen) : Type 0 where
 pub record OnRegion (shape : VolumeShape) (x : Seen) (k : Kept) (i words : ℕ) : Type 0 where
   pub ready : Ready shape x k
   pub ino : IsIno shape i
-  pub region : (held_of shape x.words i).kind ≡ 3
+  pub region : (held_of shape x.words i).kind ≡ region_kind
   pub size : (held_of shape x.words i).size ≡ 8 * words
 
 -- what a view keeps of the inode of region i is what the blocks say
@@ -36,7 +37,7 @@ KeepsInode f i inode = IsInode f i inode
 
 -- block b is the page of region i that has word `at`
 pub record IsWordPage (shape : VolumeShape) (f : BlockWords) (i at b : ℕ) : Type 0 where
-  pub kind : (placed_at f i).kind ≡ 3
+  pub kind : (placed_at f i).kind ≡ region_kind
   pub own : Owns (volume_layout shape f) i (AtPage (at / 512))
   pub within : 8 * at < (placed_at f i).size
   pub block : b ≡ (placed_at f i).block (AtPage (at / 512))
@@ -73,7 +74,7 @@ few_words shape x k i words h =
     let f = x.words in
     let n = placed_at f i in
     let held_as : held_of shape f i ≡ held f n = held_ino (volume_layout shape f) f i h.ino in
-    let kind : n.kind ≡ 3 = sym (ap (λ (g : Held). g.kind) held_as) ∙ h.region in
+    let kind : n.kind ≡ region_kind = sym (ap (λ (g : Held). g.kind) held_as) ∙ h.region in
     let used : 0 < n.kind = omega (arith, kind) in
     let test : nat_lt 0 n.kind ≡ true = grind (arith, nat_tests, used) in
     let size : n.size ≡ 8 * words = sym (ap (λ (g : Held). g.size) held_as ∙ ap (λ b. cond b n.size 0) test) ∙ h.size in

@@ -5,6 +5,7 @@ ghost use Rattle.std.specs.Prelude.{◌≡◌, ◌+◌, ◌*◌, ◌/◌, ◌%�
 ghost use Rattle.rio_base.specs.Blocks.{Ends, FaultAt, as_word};
 ghost use Rattle.rio_base.specs.Regions.{AreWords, OldOrPutWord, OldOrPutWords, put_word, put_words};
 ghost use Rattle.rio_base.specs.Volume.{Goes};
+ghost use Rattle.rio_base.specs.NodeKinds.{region_kind};
 ghost use Rattle.rio_model.specs.Held.{held_of};
 ghost use Rattle.rio_model.specs.VolumeReady.{Ready};
 ghost use Rattle.inode_table.specs.Inodes.{IsInode};
@@ -49,7 +50,7 @@ fn page_block<V: Blocks>(
 ) -> Result<Block, VolFail>
     requires sound { V.sound v.old }
     requires can { CanRead shape.now (V.seen v.old) }
-    requires region { (held_of shape.now (V.seen v.old).words i.0).kind ≡ 3 }
+    requires region { (held_of shape.now (V.seen v.old).words i.0).kind ≡ region_kind }
     requires inode { IsInode (V.seen v.old).words i.0 inode.now }
     requires place { 8 * at < (held_of shape.now (V.seen v.old).words i.0).size }
     ensures page { IfOk result (λ b. IsWordPage shape.now (V.seen v.new).words i.0 at b.0) }
@@ -85,7 +86,7 @@ pub fn read_word<V: Volume>(
 ) -> Result<u64, VolFail>
     requires sound { V.sound v.old }
     requires ready { Ready shape.now (V.seen v.old) (V.kept v.old) }
-    requires region { (held_of shape.now (V.seen v.old).words i.0).kind ≡ 3 }
+    requires region { (held_of shape.now (V.seen v.old).words i.0).kind ≡ region_kind }
     requires inode { IsInode (V.seen v.old).words i.0 inode.now }
     requires place { 8 * at < (held_of shape.now (V.seen v.old).words i.0).size }
     ensures value { IfOk result (λ word. word ≡ (held_of shape.now (V.seen v.old).words i.0).word at) }
@@ -111,7 +112,7 @@ fn read_part<V: Blocks>(
 ) -> Result<(), VolFail>
     requires sound { V.sound v.old }
     requires can { CanRead shape.now (V.seen v.old) }
-    requires region { (held_of shape.now (V.seen v.old).words i.0).kind ≡ 3 }
+    requires region { (held_of shape.now (V.seen v.old).words i.0).kind ≡ region_kind }
     requires inode { IsInode (V.seen v.old).words i.0 inode.now }
     requires some { 0 < length into.old }
     requires within { at % 512 + length into.old ≤ 512 }
@@ -141,7 +142,7 @@ fn read_more<V: Blocks>(
 ) -> Result<usize, VolFail>
     requires sound { V.sound v.old }
     requires can { CanRead shape.now (V.seen v.old) }
-    requires region { (held_of shape.now (V.seen v.old).words i.0).kind ≡ 3 }
+    requires region { (held_of shape.now (V.seen v.old).words i.0).kind ≡ region_kind }
     requires inode { IsInode (V.seen v.old).words i.0 inode.now }
     requires some { done < length into.old }
     requires few { at + length into.old < 2 ^ 32 }
@@ -173,7 +174,7 @@ pub fn read_words<V: Blocks>(
 ) -> Result<(), VolFail>
     requires sound { V.sound v.old }
     requires can { CanRead shape.now (V.seen v.old) }
-    requires region { (held_of shape.now (V.seen v.old).words i.0).kind ≡ 3 }
+    requires region { (held_of shape.now (V.seen v.old).words i.0).kind ≡ region_kind }
     requires inode { IsInode (V.seen v.old).words i.0 inode.now }
     requires few { at + length into.old < 2 ^ 32 }
     requires place { 8 * (at + length into.old) ≤ (held_of shape.now (V.seen v.old).words i.0).size }
@@ -203,7 +204,7 @@ pub fn store_word<V: Volume>(
 ) -> Result<(), VolFail>
     requires sound { V.sound v.old }
     requires ready { Ready shape.now (V.seen v.old) (V.kept v.old) }
-    requires region { (held_of shape.now (V.seen v.old).words i.0).kind ≡ 3 }
+    requires region { (held_of shape.now (V.seen v.old).words i.0).kind ≡ region_kind }
     requires inode { IsInode (V.seen v.old).words i.0 inode.now }
     requires place { 8 * at < (held_of shape.now (V.seen v.old).words i.0).size }
     ensures ok { OnOk result ((held_of shape.now (V.seen v.new).words i.0).word ≡ put_word (held_of shape.now (V.seen v.old).words i.0).word at word) }
@@ -231,7 +232,7 @@ fn store_part<V: Volume>(
 ) -> Result<(), RunFail>
     requires sound { V.sound v.old }
     requires ready { Ready shape.now (V.seen v.old) (V.kept v.old) }
-    requires region { (held_of shape.now (V.seen v.old).words i.0).kind ≡ 3 }
+    requires region { (held_of shape.now (V.seen v.old).words i.0).kind ≡ region_kind }
     requires inode { IsInode (V.seen v.old).words i.0 inode.now }
     requires some { 0 < length from.now }
     requires within { at % 512 + length from.now ≤ 512 }
@@ -263,7 +264,7 @@ fn store_page<V: Volume>(
 ) -> Result<usize, RunFail>
     requires sound { V.sound v.old }
     requires ready { Ready shape.now (V.seen v.old) (V.kept v.old) }
-    requires region { (held_of shape.now (V.seen v.old).words i.0).kind ≡ 3 }
+    requires region { (held_of shape.now (V.seen v.old).words i.0).kind ≡ region_kind }
     requires inode { IsInode (V.seen v.old).words i.0 inode.now }
     requires some { 0 < length from.now }
     requires place { 8 * (at + length from.now) ≤ (held_of shape.now (V.seen v.old).words i.0).size }
@@ -296,7 +297,7 @@ pub fn store_words<V: Volume>(
 ) -> Result<(), RunFail>
     requires sound { V.sound v.old }
     requires ready { Ready shape.now (V.seen v.old) (V.kept v.old) }
-    requires region { (held_of shape.now (V.seen v.old).words i.0).kind ≡ 3 }
+    requires region { (held_of shape.now (V.seen v.old).words i.0).kind ≡ region_kind }
     requires inode { IsInode (V.seen v.old).words i.0 inode.now }
     requires few { at + length from.now < 2 ^ 32 }
     requires place { 8 * (at + length from.now) ≤ (held_of shape.now (V.seen v.old).words i.0).size }

@@ -4,6 +4,7 @@ ghost use Rattle.std.specs.Prelude.{◌≡◌, OnErr, OnOk};
 ghost use Rattle.rio_base.specs.Blocks.{Ends};
 ghost use Rattle.rio_base.specs.Layout.{IsIno};
 ghost use Rattle.rio_base.specs.Volume.{Goes};
+ghost use Rattle.rio_base.specs.NodeKinds.{region_kind};
 ghost use Rattle.rio_model.specs.Held.{held_of};
 ghost use Rattle.rio_model.specs.Placed.{volume_layout};
 ghost use Rattle.rio_model.specs.VolumeReady.{LeavesInUse, Ready};
@@ -55,7 +56,7 @@ impl<V: Volume> RegionView<V> {
         requires sound { V.sound self.old.v }
         requires ready { Ready self.old.shape (V.seen self.old.v) (V.kept self.old.v) }
         requires ino { IsIno self.old.shape i.0 }
-        requires region { (held_of self.old.shape (V.seen self.old.v).words i.0).kind ≡ 3 }
+        requires region { (held_of self.old.shape (V.seen self.old.v).words i.0).kind ≡ region_kind }
         ensures ok { OnOk result (OnRegion self.new.shape (V.seen self.new.v) (V.kept self.new.v) i.0 self.new.words × (self.new.ino ≡ i)) }
         ensures inode { OnOk result (KeepsInode (V.seen self.new.v).words i.0 self.new.inode) }
         ensures err { OnErr result ((self.new.ino ≡ self.old.ino) × (self.new.words ≡ self.old.words)) }

@@ -3,12 +3,12 @@ use Rattle.std.specs.Prelude.{◌==◌, ℕ, List, [], ◌∷◌, ◌++◌, leng
 use Rattle.std.specs.Fmt.{decimal}
 use Rattle.hex.specs.Hex.{encode_lower}
 use Rattle.rio_base.specs.declared.places.Ino.{Ino}
+use Rattle.rio_base.specs.NodeKinds.{dir_kind, file_kind}
 use Rattle.rio_requests.specs.declared.reply.Reply.{Reply}
 use Rattle.rio_requests.specs.declared.reply.Reply.TheVariants.{Ok as Done, Number, Bytes, Stat, Names, Inos, Err as Refused, Fault}
 
--- 1 is a directory, 2 a file, 3 a region
 abbrev pub kind_name : ℕ → List ℕ
-kind_name kind = if kind == 1 then codes "dir" else if kind == 2 then codes "file" else codes "region"
+kind_name kind = if kind == dir_kind then codes "dir" else if kind == file_kind then codes "file" else codes "region"
 
 -- a name behind a space
 abbrev pub listed_name : List ℕ → List ℕ

@@ -10,7 +10,7 @@ ghost use Rattle.request_codec.specs.Text.{body_of, kind_name, listed_ino, liste
 
 use crate::text_room::{hold, put, put_hex, put_number, put_number_here, send};
 use name_list::NameList;
-use rio_base::{Failed, Ino, Sink};
+use rio_base::{DIRECTORY, FILE, Failed, Ino, Sink};
 use rio_requests::Reply;
 
 /// Writes a whole text, in as many calls as the sink wants. It takes no memory.
@@ -130,8 +130,8 @@ fn put_kind<K: Sink>(
     ensures { Puts result (K.written sink.old) (K.faults sink.old) (take held room.old) ((codes " " ++ kind_name kind ++ codes " ") ++ decimal size) (K.written sink.new) (K.faults sink.new) room.new }
 {
     match kind {
-        1 => put_number_here(b" dir ", size, room, held, sink),
-        2 => put_number_here(b" file ", size, room, held, sink),
+        DIRECTORY => put_number_here(b" dir ", size, room, held, sink),
+        FILE => put_number_here(b" file ", size, room, held, sink),
         _ => put_number_here(b" region ", size, room, held, sink),
     }
 }

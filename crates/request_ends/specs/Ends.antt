@@ -4,6 +4,7 @@ use Rattle.rio_base.specs.declared.places.Ino.{Ino}
 use Rattle.rio_base.specs.declared.places.VolumeShape.{VolumeShape}
 use Rattle.rio_base.specs.Blocks.{BlockWords, Seen}
 use Rattle.rio_base.specs.Volume.{Kept}
+use Rattle.rio_base.specs.NodeKinds.{free_kind, region_kind}
 use Rattle.rio_requests.specs.declared.answered.Answered.{Answered}
 use Rattle.rio_requests.specs.declared.reply.Reply.{Reply}
 use Rattle.rio_requests.specs.declared.reply.Reply.TheVariants.{Ok as Done, Number, Bytes, Stat, Names as NamesOf, Err as RefusedBy}
@@ -30,7 +31,7 @@ pub record CanServe (shape : VolumeShape) (x : Seen) (k : Kept) : Type 0 where
 
 -- each region holds the words that it held; one that is new has no undo record
 pub record Spares (h k : ℕ → Held) : Type 0 where
-  pub each : (i : ℕ) → (k i).kind ≡ 3 → (k i ≡ h i) ⊎ (((h i).kind ≡ 0) × ((k i).word 3 ≡ 0))
+  pub each : (i : ℕ) → (k i).kind ≡ region_kind → (k i ≡ h i) ⊎ (((h i).kind ≡ free_kind) × ((k i).word 3 ≡ 0))
 
 -- a call that was not stopped: the blocks read as state t, and those that are used beside the ones of before are the lowest
 -- that were free

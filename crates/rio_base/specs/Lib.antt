@@ -10,6 +10,7 @@ pub mod Image
 pub mod Layout
 pub mod Machine
 pub mod Memory
+pub mod NodeKinds
 pub mod Regions
 pub mod Rules
 pub mod Shapes

@@ -7,6 +7,7 @@ mod failures;
 mod formats;
 mod host;
 mod host_reading;
+mod kind;
 mod lists;
 mod machine;
 mod mem_words;
@@ -26,6 +27,7 @@ pub use formats::{
 };
 pub use host::Host;
 pub use host_reading::{read_from, rose};
+pub use kind::{DIRECTORY, FILE, FREE, Kind, REGION};
 pub use lists::{BlockList, HeapList, InoList, Items, Octets, RangeList, Words};
 pub use machine::Machine;
 pub use mem_words::MemWords;

@@ -4,6 +4,7 @@ use Rattle.std.specs.FinMap.{get}
 use Rattle.rio_base.specs.declared.failures.Stopped.{Stopped as MachineStopped}
 use Rattle.rio_base.specs.declared.places.VolumeShape.{VolumeShape}
 use Rattle.rio_base.specs.Blocks.{BlockWords}
+use Rattle.rio_base.specs.NodeKinds.{region_kind}
 use Rattle.rio_model.specs.declared.node.Node.TheVariants.{Region}
 use Rattle.rio_model.specs.declared.node.RegionNode.{RegionNode}
 use Rattle.rio_model.specs.declared.state.State.{State}
@@ -44,7 +45,7 @@ pub record CalledOn (shape : VolumeShape) (f g : BlockWords) (marks : Marks) (s 
   pub before : ReadsHeld shape f marks s
   pub leads : walk s 1 (names_of path) ≡ Ok i
   pub node : get s.nodes i ≡ Some (Region r)
-  pub kind : (held_of shape f i).kind ≡ 3
+  pub kind : (held_of shape f i).kind ≡ region_kind
   pub size : (held_of shape f i).size ≡ 8 * n
   pub mapped : IsMapped shape g
   pub rest : RestHeld shape i f g

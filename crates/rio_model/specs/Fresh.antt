@@ -7,6 +7,7 @@ use Rattle.rio_base.specs.Bitmap.{used_bit}
 use Rattle.rio_base.specs.Blocks.{BlockWords}
 use Rattle.rio_base.specs.Layout.{inode_kind, inode_size}
 use Rattle.rio_base.specs.Shapes.{reserved}
+use Rattle.rio_base.specs.NodeKinds.{free_kind}
 use Rattle.rio_model.specs.VolumeRules.{SuperblockRule, bitmap_bits}
 use Rattle.rio_model.specs.declared.node.Node.TheVariants.{Dir}
 use Rattle.rio_model.specs.declared.state.State.{State}
@@ -19,7 +20,7 @@ pub record IsFreshVolume (shape : VolumeShape) (f : BlockWords) : Type 0 where
   pub high : (b : ℕ) → reserved shape ≤ b → b < bitmap_bits shape → used_bit shape f b ≡ 0
   pub root_kind : inode_kind f 1 ≡ 1
   pub root_size : inode_size f 1 ≡ 0
-  pub others : (i : ℕ) → 1 < i → i ≤ shape.inodes → inode_kind f i ≡ 0
+  pub others : (i : ℕ) → 1 < i → i ≤ shape.inodes → inode_kind f i ≡ free_kind
 
 -- ---- the state: the root directory alone
 

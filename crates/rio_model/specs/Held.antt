@@ -8,6 +8,7 @@ use Rattle.std.proofs.lemmas.Bool.Decides.{nat_tests}
 use Rattle.rio_base.specs.declared.places.VolumeShape.{VolumeShape}
 use Rattle.rio_base.specs.Blocks.{BlockWords}
 use Rattle.rio_base.specs.Layout.{IsIno}
+use Rattle.rio_base.specs.NodeKinds.{dir_kind}
 use Rattle.rio_model.specs.Placed.{AtPage, Placed, Layout, volume_layout}
 
 -- words past the size are 0 here, whatever stands there
@@ -65,7 +66,7 @@ entry_name h j = bytes_in h.word (64 * j + 8) (entry_length h j)
 
 -- directory d has an entry j
 pub record HasEntry (held : ℕ → Held) (d j : ℕ) : Type 0 where
-  pub dir : (held d).kind ≡ 1
+  pub dir : (held d).kind ≡ dir_kind
   pub within : 64 * j < (held d).size
 
 -- ---- what an inode holds, by its node

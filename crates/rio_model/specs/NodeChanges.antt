@@ -5,6 +5,7 @@ use Rattle.rio_base.specs.Bitmap.{free_blocks, used_bit}
 use Rattle.rio_base.specs.Blocks.{BlockWords}
 use Rattle.rio_base.specs.Layout.{IsIno, inode_block, inode_place}
 use Rattle.rio_base.specs.Shapes.{reserved}
+use Rattle.rio_base.specs.NodeKinds.{dir_kind, file_kind}
 use Rattle.rio_model.specs.Held.{held_of, held_bytes}
 use Rattle.rio_model.specs.Placed.{Slot, AtPage, AtTable, Placed, HasSlot, Lies, Layout, IsFree}
 use Rattle.rio_model.specs.Sizes.{pages, tables, largest_size}
@@ -43,7 +44,7 @@ pub record Change (l : Layout) (f g : BlockWords) (i : ℕ) (m : Placed) : Type 
   pub does : Replaces l.shape f g i (l.node i) m
   pub bits : BitsFollow l.shape f g (l.node i) m
   pub fits : NodeFits l.shape m
-  pub root : i ≡ 1 → m.kind ≡ 1
+  pub root : i ≡ 1 → m.kind ≡ dir_kind
   pub from : (s : Slot) → HasSlot m s → Available l i (m.block s)
 
 -- ---- growth and shrinking
@@ -85,7 +86,7 @@ pub record UsesLowest (shape : VolumeShape) (f g : BlockWords) : Type 0 where
 -- those of f are the lowest that were free
 pub record SetsFile (shape : VolumeShape) (f g : BlockWords) (i : ℕ) (bytes : List ℕ) : Type 0 where
   pub mapped : IsMapped shape g
-  pub kind : (held_of shape g i).kind ≡ 2
+  pub kind : (held_of shape g i).kind ≡ file_kind
   pub own : held_bytes (held_of shape g i) ≡ bytes
   pub others : (j : ℕ) → j ≢ i → held_of shape g j ≡ held_of shape f j
   pub lowest : UsesLowest shape f g

@@ -3,6 +3,7 @@
 use Rattle.std.specs.Prelude.{ℕ, zero, suc, ◌+◌, ◌/◌, ◌==◌, if◌then◌else◌, [], Option, Some, None}
 use Rattle.std.specs.FinMap.{empty, insert}
 use Rattle.rio_base.specs.declared.places.VolumeShape.{VolumeShape}
+use Rattle.rio_base.specs.NodeKinds.{dir_kind}
 use Rattle.rio_model.specs.declared.node.Node.{Node}
 use Rattle.rio_model.specs.declared.state.State.{State}
 use Rattle.rio_model.specs.Held.{Held, entry_ino, entry_name}
@@ -23,7 +24,7 @@ entry_count h = (h.size + 63) / 64
 
 -- those of node d, which has some only if it is a directory
 abbrev pub with_names : Held → ℕ → Names → Names
-with_names h d m = if h.kind == 1 then with_entries h d (entry_count h) m else m
+with_names h d m = if h.kind == dir_kind then with_entries h d (entry_count h) m else m
 
 -- those of the inodes from 1 to n
 abbrev pub names_held : (ℕ → Held) → ℕ → Names

@@ -7,6 +7,7 @@ use Rattle.rio_base.specs.Blocks.{BlockWords}
 use Rattle.rio_base.specs.Layout.{HasSuperblock, IsIno, inode_block}
 use Rattle.rio_base.specs.Machine.{Contents}
 use Rattle.rio_base.specs.Shapes.{IsServed, reserved}
+use Rattle.rio_base.specs.NodeKinds.{dir_kind, region_kind}
 use Rattle.rio_model.specs.declared.state.State.{State}
 use Rattle.rio_model.specs.Cover.{stands}
 use Rattle.rio_model.specs.Heap.{IsSoundRegion}
@@ -38,7 +39,7 @@ pub record FailsFirst (shape : VolumeShape) (keeps : ℕ → Type 0) (b : ℕ) :
 
 -- rule 3: the kind is known, and inode 1 is a directory
 abbrev pub KindAt : Layout → ℕ → Type 0
-KindAt l i = ((l.node i).kind ≤ 3) × (i ≡ 1 → (l.node i).kind ≡ 1)
+KindAt l i = ((l.node i).kind ≤ region_kind) × (i ≡ 1 → (l.node i).kind ≡ dir_kind)
 
 -- rule 4: the size of a used inode is one that its kind may have
 abbrev pub SizeAt : Layout → ℕ → Type 0
@@ -73,7 +74,7 @@ TreeAt s i = get s.nodes i ≢ None → ((i ≡ 1) × HasNoName s i) ⊎ ((i ≢
 
 -- rule 11: a region's words keep the format
 abbrev pub RegionAt : (ℕ → Held) → ℕ → Type 0
-RegionAt held i = (held i).kind ≡ 3 → IsSoundRegion ((held i).size / 8) (held i).word
+RegionAt held i = (held i).kind ≡ region_kind → IsSoundRegion ((held i).size / 8) (held i).word
 
 -- ---- what rule 6 asks of one block
 

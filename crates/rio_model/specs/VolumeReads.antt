@@ -4,6 +4,7 @@ use Rattle.std.specs.List.{range_with_len}
 use Rattle.std.specs.FinMap.{get}
 use Rattle.rio_base.specs.declared.places.VolumeShape.{VolumeShape}
 use Rattle.rio_base.specs.Blocks.{BlockWords}
+use Rattle.rio_base.specs.NodeKinds.{free_kind, dir_kind, file_kind}
 use Rattle.rio_model.specs.declared.node.Node.{Node}
 use Rattle.rio_model.specs.declared.node.Node.TheVariants.{Dir, File, Region}
 use Rattle.rio_model.specs.declared.node.RegionNode.{RegionNode}
@@ -24,9 +25,9 @@ region_in word = record {
 -- the node that is held, if any. A kind of node is one case; a kind that no rule lets stand reads as a region
 abbrev pub node_in : Held → Option Node
 node_in h =
-    if h.kind == 0 then None else
-    if h.kind == 1 then Some Dir else
-    if h.kind == 2 then Some (File (held_bytes h)) else
+    if h.kind == free_kind then None else
+    if h.kind == dir_kind then Some Dir else
+    if h.kind == file_kind then Some (File (held_bytes h)) else
     Some (Region (region_in h.word))
 
 -- what is held reads as this state: each inode as its node, and the entries of directories as the names. No transaction is

@@ -6,6 +6,7 @@ use Rattle.rio_base.specs.Blocks.{BlockWords, Seen}
 use Rattle.rio_base.specs.Layout.{IsIno}
 use Rattle.rio_base.specs.Shapes.{HasShape, reserved}
 use Rattle.rio_base.specs.Volume.{Kept}
+use Rattle.rio_base.specs.NodeKinds.{dir_kind}
 use Rattle.rio_model.specs.Placed.{Slot, AtPage, AtTable, Placed, HasSlot, Layout, volume_layout, Owns, Agrees}
 use Rattle.rio_model.specs.VolumeRules.{IsMapped}
 
@@ -18,7 +19,7 @@ pub record NamesPage (i size p : ℕ) (name : PageName) : Type 0 where
 -- a cached block of slot s of node i, which is n, may bear this name: none for a table or a directory's page
 abbrev pub Bears : ℕ → Placed → Slot → Option PageName → Type 0
 Bears i n (AtTable k) name = name ≡ None
-Bears i n (AtPage p) None = n.kind ≡ 1
+Bears i n (AtPage p) None = n.kind ≡ dir_kind
 Bears i n (AtPage p) (Some name) = (n.kind ≢ 1) × NamesPage i n.size p name
 
 -- each cached block of node i bears such a name

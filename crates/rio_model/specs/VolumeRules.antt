@@ -7,6 +7,7 @@ use Rattle.rio_base.specs.Bitmap.{used_bit}
 use Rattle.rio_base.specs.Blocks.{BlockWords}
 use Rattle.rio_base.specs.Layout.{HasSuperblock, IsIno}
 use Rattle.rio_base.specs.Shapes.{IsShape, reserved, more_bitmap}
+use Rattle.rio_base.specs.NodeKinds.{dir_kind, region_kind}
 use Rattle.rio_model.specs.declared.state.State.{State}
 use Rattle.rio_model.specs.Heap.{IsSoundRegion}
 use Rattle.rio_model.specs.Held.{Held, entry_ino, entry_name, HasEntry}
@@ -34,15 +35,15 @@ pub record ReservedRule (shape : VolumeShape) (f : BlockWords) : Type 0 where
 
 -- rule 3: each kind is known, and the root is a directory
 pub record KindRule (l : Layout) : Type 0 where
-  pub each : (i : ℕ) → IsIno l.shape i → (l.node i).kind ≤ 3
-  pub root : (l.node 1).kind ≡ 1
+  pub each : (i : ℕ) → IsIno l.shape i → (l.node i).kind ≤ region_kind
+  pub root : (l.node 1).kind ≡ dir_kind
 
 -- a node of this kind may have this size
 pub record SizeFits (kind size : ℕ) : Type 0 where
   pub most : size ≤ largest_size
-  pub directory : kind ≡ 1 → size % 64 ≡ 0
-  pub region : kind ≡ 3 → size % 4096 ≡ 0
-  pub region_pages : kind ≡ 3 → 16384 ≤ size
+  pub directory : kind ≡ dir_kind → size % 64 ≡ 0
+  pub region : kind ≡ region_kind → size % 4096 ≡ 0
+  pub region_pages : kind ≡ region_kind → 16384 ≤ size
 
 -- rule 4: each used inode's size is one that its kind may have
 pub record SizeRule (l : Layout) : Type 0 where
@@ -84,7 +85,7 @@ pub record TreeRule (s : State) : Type 0 where
 
 -- rule 11: each region's words keep the format, and its heap map is of blocks alone once the undo records are put back
 pub record RegionRule (held : ℕ → Held) : Type 0 where
-  pub each : (i : ℕ) → (held i).kind ≡ 3 → IsSoundRegion ((held i).size / 8) (held i).word
+  pub each : (i : ℕ) → (held i).kind ≡ region_kind → IsSoundRegion ((held i).size / 8) (held i).word
 
 -- ---- rules together
 
@@ -113,7 +114,7 @@ pub record IsMapped (shape : VolumeShape) (f : BlockWords) : Type 0 where
 
 -- what the rules 3 to 6 ask of one node alone
 pub record NodeFits (shape : VolumeShape) (n : Placed) : Type 0 where
-  pub kind : n.kind ≤ 3
+  pub kind : n.kind ≤ region_kind
   pub size : 0 < n.kind → SizeFits n.kind n.size
   pub from : (s : Slot) → HasSlot n s → reserved shape ≤ n.block s
   pub to : (s : Slot) → HasSlot n s → n.block s < shape.blocks

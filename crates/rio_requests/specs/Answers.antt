@@ -20,6 +20,7 @@ use Rattle.rio_model.specs.Undo.{region_words}
 use Rattle.rio_model.specs.declared.refusal.Refusal.TheVariants.{NotFound, Exists, NotADirectory, IsADirectory, NotEmpty, IsRoot, TooLarge, NoSpace, NoInode, Busy, InsideItself}
 use Rattle.rio_requests.specs.RegionAnswers.{abort_on, alloc_on, begin_on, commit_on, free_on, get_on, put_on, range_on}
 use Rattle.rio_requests.specs.Transactions.{arm, at_region, changed, looked, txns, wild}
+use Rattle.rio_base.specs.NodeKinds.{dir_kind, file_kind, region_kind}
 
 -- ---- room
 
@@ -57,7 +58,7 @@ without s dir name i = record s { names = remove s.names (dir, name); nodes = re
 
 -- a node of this kind without bytes or names
 abbrev pub empty_node : ℕ → Node
-empty_node kind = if kind == 1 then Dir else File []
+empty_node kind = if kind == dir_kind then Dir else File []
 
 -- the blocks that a new node takes
 abbrev pub new_blocks : Node → ℕ
@@ -219,9 +220,9 @@ rename s path to busy = rename_at s busy (names_of path) (names_of to)
 
 -- of a region, the bytes of its data pages
 abbrev pub stat_node : State → ℕ → Option Node → Answered
-stat_node s i (Some Dir) = answered s (Stat (record { 0 = i }) 1 (64 * length (names_in s i)))
-stat_node s i (Some (File bytes)) = answered s (Stat (record { 0 = i }) 2 (length bytes))
-stat_node s i (Some (Region r)) = answered s (Stat (record { 0 = i }) 3 (4096 * data_pages r))
+stat_node s i (Some Dir) = answered s (Stat (record { 0 = i }) dir_kind (64 * length (names_in s i)))
+stat_node s i (Some (File bytes)) = answered s (Stat (record { 0 = i }) file_kind (length bytes))
+stat_node s i (Some (Region r)) = answered s (Stat (record { 0 = i }) region_kind (4096 * data_pages r))
 stat_node s i None = refused s NotFound
 
 abbrev pub stat : State → List ℕ → Answered

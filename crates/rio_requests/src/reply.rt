@@ -19,7 +19,7 @@ pub enum Reply {
     Stat {
         /// Its inode.
         ino: Ino,
-        /// 1 for a directory, 2 for a file, 3 for a region.
+        /// The number of its [`rio_base::Kind`].
         kind: u8,
         /// Its size in bytes.
         size: u64,

@@ -4,6 +4,7 @@ use Rattle.rio_base.specs.declared.places.VolumeShape.{VolumeShape}
 use Rattle.rio_base.specs.Blocks.{BlockWords, Seen}
 use Rattle.rio_base.specs.Layout.{volume_magic}
 use Rattle.rio_base.specs.Volume.{Kept, put, put_run}
+use Rattle.rio_base.specs.NodeKinds.{free_kind, dir_kind}
 use Rattle.rio_model.specs.Fresh.{fresh_state}
 use Rattle.rio_model.specs.Held.{held_of}
 use Rattle.rio_model.specs.VolumeReads.{ReadsAs}
@@ -33,7 +34,7 @@ pub record IsFresh (shape : VolumeShape) (x : Seen) (k : Kept) : Type 0 where
 -- the nodes from inode 2 to inode `last` are of this kind, no inode past them is used, and no node has bytes
 pub record HasNodes (shape : VolumeShape) (f : BlockWords) (kind last : ℕ) : Type 0 where
   pub mapped : IsMapped shape f
-  pub root : (held_of shape f 1).kind ≡ 1
+  pub root : (held_of shape f 1).kind ≡ dir_kind
   pub made : (i : ℕ) → 2 ≤ i → i ≤ last → (held_of shape f i).kind ≡ kind
-  pub free : (i : ℕ) → last < i → (held_of shape f i).kind ≡ 0
+  pub free : (i : ℕ) → last < i → (held_of shape f i).kind ≡ free_kind
   pub empty : (i : ℕ) → (held_of shape f i).size ≡ 0

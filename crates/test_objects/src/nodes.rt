@@ -5,6 +5,7 @@ ghost use Rattle.rio_base.specs.Layout.{inode_block, inode_place, IsIno};
 ghost use Rattle.test_objects.specs.ListVolumes.{ListSound, list_kept, list_seen};
 ghost use Rattle.rio_base.specs.Shapes.{HasShape};
 ghost use Rattle.rio_base.specs.Volume.{Firm, put_run};
+ghost use Rattle.rio_base.specs.NodeKinds.{dir_kind, file_kind};
 ghost use Rattle.rio_model.specs.VolumeReady.{Ready};
 ghost use Rattle.inode_table.specs.Inodes.{inode_words};
 ghost use Rattle.test_objects.specs.TestVolumes.{HasNodes, IsTestShape};
@@ -53,7 +54,7 @@ fn add_node<V: Volume>(v: &mut V, shape: &VolumeShape, i: Ino, inode: &Inode) ->
 fn add_nodes<V: Volume>(v: &mut V, shape: &VolumeShape, kind: u8, last: u32) -> Result<(), VolFail>
     requires sound { V.sound v.old }
     requires sizes { IsTestShape shape.now }
-    requires kind { (kind ≡ 1) ⊎ (kind ≡ 2) }
+    requires kind { (kind ≡ dir_kind) ⊎ (kind ≡ file_kind) }
     requires from { 1 ≤ last }
     requires to { last ≤ 64 }
     requires shape { HasShape shape.now (V.seen v.old) }
@@ -81,7 +82,7 @@ pub fn with_nodes(
     last: u32,
 ) -> Result<ListVolume, Fail>
     requires sizes { IsTestShape shape.now }
-    requires kind { (kind ≡ 1) ⊎ (kind ≡ 2) }
+    requires kind { (kind ≡ dir_kind) ⊎ (kind ≡ file_kind) }
     requires from { 1 ≤ last }
     requires to { last ≤ 64 }
     ensures sound { IfOk result ListSound }

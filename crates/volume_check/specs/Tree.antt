@@ -3,6 +3,7 @@ use Rattle.std.specs.Prelude.{◌≡◌, ◌≢◌, ℕ, ◌+◌, ◌<◌, ◌�
 use Rattle.rio_base.specs.declared.places.Ino.{Ino}
 use Rattle.rio_base.specs.declared.places.VolumeShape.{VolumeShape}
 use Rattle.rio_base.specs.Layout.{IsIno}
+use Rattle.rio_base.specs.NodeKinds.{dir_kind}
 use Rattle.rio_model.specs.declared.state.State.{State}
 use Rattle.rio_model.specs.Held.{HasEntry, Held, entry_ino}
 use Rattle.rio_model.specs.ReadState.{read_state}
@@ -59,7 +60,7 @@ dir_numbers r = map (λ i. i.0) r.dirs.items
 pub record Enters (kind : ℕ) (i : Ino) (old new : Reach) : Type 0 where
   pub again : IsReached old i.0 → new ≡ old
   pub marked : ¬ IsReached old i.0 → new.reached.items ≡ slice_set old.reached.items i.0 true
-  pub directory : ¬ IsReached old i.0 → kind ≡ 1 → new.dirs.items ≡ old.dirs.items ++ i ∷ []
+  pub directory : ¬ IsReached old i.0 → kind ≡ dir_kind → new.dirs.items ≡ old.dirs.items ++ i ∷ []
   pub other : ¬ IsReached old i.0 → kind ≢ 1 → new.dirs.items ≡ old.dirs.items
 
 -- what is reached are inodes that some entries lead to, and the directories among them are listed
@@ -67,8 +68,8 @@ pub record Found (shape : VolumeShape) (held : ℕ → Held) (r : Reach) : Type 
   pub len : length r.reached.items ≡ shape.inodes + 1
   pub inos : (i : ℕ) → IsReached r i → IsIno shape i
   pub ways : (i : ℕ) → IsReached r i → (path : List (ℕ × ℕ)) × Leads held path i
-  pub listed : (d : ℕ) → IsReached r d → (held d).kind ≡ 1 → (k : ℕ) × (k < length (dir_numbers r)) × (slice_index (dir_numbers r) k ≡ d)
-  pub dirs : (k : ℕ) → k < length (dir_numbers r) → IsReached r (slice_index (dir_numbers r) k) × ((held (slice_index (dir_numbers r) k)).kind ≡ 1)
+  pub listed : (d : ℕ) → IsReached r d → (held d).kind ≡ dir_kind → (k : ℕ) × (k < length (dir_numbers r)) × (slice_index (dir_numbers r) k ≡ d)
+  pub dirs : (k : ℕ) → k < length (dir_numbers r) → IsReached r (slice_index (dir_numbers r) k) × ((held (slice_index (dir_numbers r) k)).kind ≡ dir_kind)
 
 -- how many inodes are not reached
 abbrev pub unreached : List Bool → ℕ

@@ -3,6 +3,7 @@
 ghost use Rattle.std.specs.Prelude.{◌≡◌, ◌↔◌, ◌≤◌, IsTrue, OnOk, IfErr};
 ghost use Rattle.rio_base.specs.Blocks.{Seen};
 ghost use Rattle.rio_base.specs.Layout.{IsIno, inode_block};
+ghost use Rattle.rio_base.specs.NodeKinds.{dir_kind, region_kind};
 ghost use Rattle.rio_model.specs.VolumeRules.{KindRule, SizeFits, SizeRule};
 ghost use Rattle.volume_check.specs.Looking.{Refuses};
 ghost use Rattle.volume_check.specs.Inodes.{HasInodes, layout_of};
@@ -12,16 +13,16 @@ ghost use Rattle.volume_check.specs.Rules.{FailsInodes};
 use crate::failures::CheckFail;
 use crate::inodes::Inodes;
 use inode_table::{LARGEST_SIZE, inode_block};
-use rio_base::{Ino, PAGE_BYTES};
+use rio_base::{Ino, Kind, PAGE_BYTES};
 
-/// The kinds of inodes that are used.
-pub const DIRECTORY: u64 = 1;
+/// A directory, as a word.
+pub const DIRECTORY: u64 = Kind::Directory as u64;
 
 /// A file.
-pub const FILE: u64 = 2;
+pub const FILE: u64 = Kind::File as u64;
 
 /// A region.
-pub const REGION: u64 = 3;
+pub const REGION: u64 = Kind::Region as u64;
 
 /// The root directory.
 const ROOT: Ino = Ino(1);
@@ -43,7 +44,7 @@ pub enum InodeRule {
 
 /// Whether inode `i` may be of this kind.
 fn is_known(kind: u64, i: Ino) -> bool
-    ensures { IsTrue result ↔ ((kind ≤ 3) × (i.0 ≡ 1 → kind ≡ 1)) }
+    ensures { IsTrue result ↔ ((kind ≤ region_kind) × (i.0 ≡ 1 → kind ≡ dir_kind)) }
 {
     if i == ROOT {
         return kind == DIRECTORY;

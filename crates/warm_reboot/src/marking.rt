@@ -17,12 +17,9 @@ ghost use Rattle.page_restore.specs.Stale.{MarksStale, SaysStale};
 
 use inode_table::{BLOCK_INODES, Inode, read_inode};
 use registry::{Entry, Tag, frame_count, load_tag};
-use rio_base::{Blocks, Ino, Machine, PAGE_BYTES, VolFail, VolumeShape};
+use rio_base::{Blocks, DIRECTORY, Ino, Machine, PAGE_BYTES, VolFail, VolumeShape};
 use rio_model::Owner;
 use std::alloc::{AllocError, Global};
-
-/// The kind of a directory's inode.
-const DIRECTORY: u8 = 1;
 
 /// The blocks of superblock and bitmap.
 const FIRST_BLOCKS: u32 = 2;

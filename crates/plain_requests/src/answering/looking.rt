@@ -9,7 +9,7 @@ use super::listing::{count_names, list_of_names, names_in};
 use super::paths::{names_of, walk, walk_to_dir};
 use super::room::data_pages;
 use super::{refused, unchanged};
-use rio_base::Ino;
+use rio_base::{DIRECTORY, FILE, Ino, REGION};
 use rio_model::{Node, Refusal, State};
 use rio_requests::{Answered, Reply};
 use std::alloc::{AllocError, Global};
@@ -32,15 +32,15 @@ fn stat_node(alloc: Global, s: &State, ino: Ino) -> Result<Answered, AllocError>
     match s.nodes.get(ino) {
         Some(Node::Dir) => {
             let size = rows_size(alloc, s, ino)?;
-            unchanged(s, Reply::Stat { ino, kind: 1, size })
+            unchanged(s, Reply::Stat { ino, kind: DIRECTORY, size })
         }
         Some(Node::File(bytes)) => {
             let size = bytes.as_slice().len() as u64;
-            unchanged(s, Reply::Stat { ino, kind: 2, size })
+            unchanged(s, Reply::Stat { ino, kind: FILE, size })
         }
         Some(Node::Region(region)) => {
             let size = bytes_of(4096, data_pages(region) as u64)?;
-            unchanged(s, Reply::Stat { ino, kind: 3, size })
+            unchanged(s, Reply::Stat { ino, kind: REGION, size })
         }
         None => refused(s, Refusal::NotFound as u8),
     }

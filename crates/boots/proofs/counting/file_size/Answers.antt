@@ -5,4 +5,4 @@ use Rattle.boots.proofs.counting.file_size.Goals as goal
 pub returns-clause-size : goal.returns-clause-size
 returns-clause-size g c = λ s reads.
     let inode = c.in_ok-inode.ensures.value in
-    inode.size ∙ file_sized _ _ s _ reads c.requires.ino (sym inode.kind ∙ c.if-inode-ne-KIND_FILE.false)
+    inode.size ∙ file_sized _ _ s _ reads c.requires.ino (sym inode.kind ∙ c.if-inode-ne-FILE.false)
