@@ -37,7 +37,7 @@ size_held : (shape : VolumeShape) (f : BlockWords) (i : ℕ) → IsIno shape i �
 size_held shape f i ino file = ap (λ (h : Held). h.size) (held_ino (volume_layout shape f) f i ino) ∙ ap (λ k. cond (nat_lt 0 k) (inode_size f i) 0) file
 
 pub kind_small : (shape : VolumeShape) (f : BlockWords) (s : State) (i : ℕ) → ReadsAs shape f s → IsIno shape i → inode_kind f i ≤ 3
-kind_small shape f s i reads ino = reads.mapped.laid.kinds.each i ino
+kind_small shape f s i reads ino = (reads.mapped.laid.kinds.each i ino).0
 
 -- a file has as many bytes as its inode says
 pub file_sized : (shape : VolumeShape) (f : BlockWords) (s : State) (i : ℕ) → ReadsAs shape f s → IsIno shape i → inode_kind f i ≡ 2 → inode_size f i ≡ bytes_in (get s.nodes i)

@@ -78,7 +78,7 @@ row_planned shape x k y j dir inode change e name i c can ready leaves is plans 
     ]
 
     short : Short h
-    short a within = (can.entries.named dir.0 a (record { dir = kind; within = within })).few
+    short a within = (can.entries.each dir.0 a (record { dir = kind; within = within })).0.few
 
     row : AddsRow name i h (sized_to (inode.size + 64) (with_entry h (inode.size / 64) (slice_index e.words)))
     row = subst (λ s. AddsRow name i h (sized_to (s + 64) (with_entry h (s / 64) (slice_index e.words)))) same (row_added h e.words name i kind (ap (λ n. n % 64) same ∙ whole) short is_name.few is_entry absent)

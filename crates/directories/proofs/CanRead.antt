@@ -32,14 +32,14 @@ can_page shape x d p b h has at = record { in_range = tt; agrees = λ on. by (x.
     by (Some name) bears = absurd (bears.0 h.dir)
 
 pub page_below : (shape : VolumeShape) (x : Seen) (d p b : ℕ) → CanReadDir shape x d → HasSlot (placed_at x.words d) (AtPage p) → b ≡ (placed_at x.words d).block (AtPage p) → b < x.count
-page_below shape x d p b h has at = let to = h.mapped.laid.numbers.to d (AtPage p) (record { ino = h.ino; slot = has }) in let count = h.has_shape.count in omega (arith, to, count, at)
+page_below shape x d p b h has at = let to = (h.mapped.laid.numbers.each d h.ino (AtPage p) has).1 in let count = h.has_shape.count in omega (arith, to, count, at)
 
 -- a page read as metadata
 pub looked_page : (shape : VolumeShape) (x y : Seen) (d p b : ℕ) → CanReadDir shape x d → HasSlot (placed_at x.words d) (AtPage p) → b ≡ (placed_at x.words d).block (AtPage p) → Looks x y → Caches x y b None → LooksUp shape x y
 looked_page shape x y d p b h has at looks caches = record {
   looks = looks;
   still = record {
-    has_shape = shape_beside shape x y b None h.has_shape looks.count (subst (λ c. reserved shape ≤ c) (sym at) (h.mapped.laid.numbers.from d (AtPage p) own)) caches;
+    has_shape = shape_beside shape x y b None h.has_shape looks.count (subst (λ c. reserved shape ≤ c) (sym at) (h.mapped.laid.numbers.each d own.ino (AtPage p) own.slot).0) caches;
     numbered = subst (IsNumbered shape) (sym looks.words) (numbered_of shape x.words h.mapped);
     unnamed = subst (λ f. TablesUnnamed (volume_layout shape f) y) (sym looks.words) (record { each = λ n t owns on. by n t owns on (cases_eq ((l.node n).block (AtTable t)) b) });
   };

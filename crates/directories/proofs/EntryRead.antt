@@ -58,5 +58,5 @@ slot_other h j words name slot other i row = other (slot.named ∙ row.named)
 -- the name of an entry has 1 to 56 bytes where the rule on entries holds
 pub entry_sized : (held : ℕ → Held) (d j i : ℕ) (name : List ℕ) → EntryRule held → (held d).kind ≡ 1 → IsEntry (held d) j name i → (1 ≤ length name) × (length name ≤ 56)
 entry_sized held d j i name rule dir row =
-    let is = rule.named d j (record { dir = dir; within = row.within }) in
+    let is = (rule.each d j (record { dir = dir; within = row.within })).0 in
     (subst (λ (n : List ℕ). 1 ≤ length n) row.named is.some, subst (λ (n : List ℕ). length n ≤ 56) row.named is.few)

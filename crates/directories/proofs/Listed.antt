@@ -122,7 +122,7 @@ names_on old new xs ys r same = subst (λ zs. OnOk r (new ≡ old ++ zs)) same
 pub names_short : (shape : VolumeShape) (x : Seen) (d : ℕ) → CanReadDir shape x d → (j : ℕ) → 64 * j < (held x.words (placed_at x.words d)).size → length (entry_name (held x.words (placed_at x.words d)) j) ≤ 56
 names_short shape x d h j within =
     let is = dir_held shape x d h in
-    subst (λ (k : Held). length (entry_name k j) ≤ 56) is (h.entries.named d j (record { dir = ap (λ (k : Held). k.kind) is ∙ h.dir; within = subst (λ (k : Held). 64 * j < k.size) (sym is) within })).few
+    subst (λ (k : Held). length (entry_name k j) ≤ 56) is (h.entries.each d j (record { dir = ap (λ (k : Held). k.kind) is ∙ h.dir; within = subst (λ (k : Held). 64 * j < k.size) (sym is) within })).0.few
 
 -- the names of all slots, put in order
 pub lists_sorted : (h : Held) (size : ℕ) (slots names : List (List ℕ)) → size ≡ h.size → slots ≡ map (entry_name h) (range_with_len 0 (size / 64)) → IsPermutation slots names → IsSorted (slice_cmp nat_cmp) names → ListsNames h names

@@ -22,7 +22,7 @@ dir_cached : (l : Layout) (d : ℕ) (edits : List Edit) (y z : Seen) → IsLaid 
 dir_cached l d edits y z laid ino dir in_node caches h = record { each = λ j jno s has on. by j jno s has (caches.each _ on) }
   where
     low_out : (j : ℕ) (s : Slot) (b : ℕ) → Owns l j s → b < reserved l.shape → (l.node j).block s ≡ b → ⊥
-    low_out j s b own low e = let from = laid.numbers.from j s own in omega (arith, from, low, e)
+    low_out j s b own low e = let from = (laid.numbers.each j own.ino s own.slot).0 in omega (arith, from, low, e)
 
     in_edit : (j : ℕ) (s : Slot) (name : Option PageName) → Owns l j s → IsEdited edits ((l.node j).block s) → name ≡ None → Bears j (l.node j) s name
     in_edit j s name own on none =

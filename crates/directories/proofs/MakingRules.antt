@@ -117,7 +117,7 @@ may_still shape n m a d i f g k mapped change ino away apart may = record {
     from_reserved s has = low (may.from s has)
       where
         low : Available l d (m.block s) → reserved shape ≤ m.block s
-        low (inl (u, mine, at)) = subst (λ b. reserved shape ≤ b) at (mapped.laid.numbers.from d u (record { ino = ino; slot = mine }))
+        low (inl (u, mine, at)) = subst (λ b. reserved shape ≤ b) at (mapped.laid.numbers.each d ino u mine).0
         low (inr free) = free.from
 
     block_still : (s : Slot) → HasSlot m s → (w : ℕ) → k (m.block s) w ≡ g (m.block s) w

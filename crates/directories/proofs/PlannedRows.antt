@@ -83,7 +83,7 @@ dir_holds shape x d can = record {
   kind = kind;
   sized = sized;
   whole = (let whole = dir_size shape x d can in omega (arith, whole, sized));
-  short = λ j within. (can.entries.named d j (record { dir = kind; within = within })).few;
+  short = λ j within. (can.entries.each d j (record { dir = kind; within = within })).0.few;
 }
   where
     n : Placed

@@ -16,8 +16,7 @@ pub dirs_made : (shape : VolumeShape) (x : Seen) (k : Kept) → Ready shape x k 
 dirs_made shape x k ready nodes = record {
   ready = ready;
   entries = record {
-    named = λ d j has. absurd (none d j has);
-    used = λ d j has. absurd (none d j has);
+    each = λ d j has. (absurd (none d j has), absurd (none d j has));
   };
   dirs = dir;
   apart = λ i at a b in_a in_b same. absurd (none i a (record { dir = dir i at; within = in_a }));

@@ -56,8 +56,7 @@ dirs_looked shape s o t n x k y j h l passes = dirs_read shape s o t n x k y j h
 
 entries_set : (shape : VolumeShape) (g k : BlockWords) (d : ℕ) → EntryRule (held_of shape g) → (held_of shape g d).kind ≡ 1 → ((i : ℕ) → IsTestDir i → (held_of shape g i).kind ≡ 1) → SetsDir shape g k d KeepsRows → EntryRule (held_of shape k)
 entries_set shape g k d was dir dirs set = record {
-  named = λ e j has. named e j has (cases_eq e d);
-  used = λ e j has. used e j has (cases_eq e d);
+  each = λ e j has. (named e j has (cases_eq e d), used e j has (cases_eq e d));
 }
   where
     still_used : (i : ℕ) → 0 < (held_of shape g i).kind → 0 < (held_of shape k i).kind

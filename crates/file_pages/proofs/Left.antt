@@ -69,8 +69,8 @@ stops_on shape f x k y j i bytes part h settled set m is = record {
 
 pub lost_free : (shape : VolumeShape) (f k : BlockWords) (i : ℕ) (m : Placed) (s : Slot) (b : ℕ) → IsMapped shape f → Change (volume_layout shape f) f k i m → HasSlot (placed_at f i) s → (placed_at f i).block s ≡ b → Without m b → IsFree (volume_layout shape k) b
 lost_free shape f k i m s b h change has at gone = record {
-  from = subst (λ x. reserved shape ≤ x) at (h.laid.numbers.from i s own);
-  to = subst (λ (x : ℕ). x < shape.blocks) at (h.laid.numbers.to i s own);
+  from = subst (λ x. reserved shape ≤ x) at (h.laid.numbers.each i own.ino s own.slot).0;
+  to = subst (λ (x : ℕ). x < shape.blocks) at (h.laid.numbers.each i own.ino s own.slot).1;
   free = λ o. by (owned_back (with_placed l i m) (volume_layout shape k) b (lays_same (with_placed l i m) k (lays_replaced l f k i m h.laid (lays_self shape f) change)) o);
 }
   where

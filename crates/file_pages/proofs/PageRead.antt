@@ -16,7 +16,7 @@ pub looked_page : (shape : VolumeShape) (x y : Seen) (i p b : ℕ) (given : Page
 looked_page shape x y i p b given h mapped named own at kind wide looks caches = record {
   looks = looks;
   still = record {
-    has_shape = shape_beside shape x y b (Some given) h looks.count (subst (λ c. reserved shape ≤ c) (sym at) (mapped.laid.numbers.from i (AtPage p) own)) caches;
+    has_shape = shape_beside shape x y b (Some given) h looks.count (subst (λ c. reserved shape ≤ c) (sym at) (mapped.laid.numbers.each i own.ino (AtPage p) own.slot).0) caches;
     numbered = subst (IsNumbered shape) (sym looks.words) (numbered_of shape x.words mapped);
     unnamed = subst (λ f. TablesUnnamed (volume_layout shape f) y) (sym looks.words) (record { each = λ n t owns on. by n t owns on (cases_eq ((l.node n).block (AtTable t)) b) });
   };

@@ -7,6 +7,7 @@ use Rattle.file_pages.specs.Files.{SetsBoth, StopsAs, file_bytes}
 use Rattle.file_pages.specs.Preparing.{Committed, IsEither, Prepared, SizeLeaves}
 use Rattle.node_pages.proofs.OrderRules.{order_agree, order_changed, order_touched, ready_left, ready_order}
 use Rattle.rio_model.specs.VolumeReady.{InOrder}
+use Rattle.rio_model.proofs.PlacedRules.{root_ino}
 use Rattle.file_pages.specs.Touching.{CanChange}
 use Rattle.node_pages.specs.Updating.{IsEdited, IsUpdated}
 use Rattle.node_pages.specs.declared.changes.Edit.{Edit}
@@ -24,7 +25,7 @@ each_edit P (d ∷ es) e all (zero, few, is) = subst P is all.0
 each_edit P (d ∷ es) e all (suc k, few, is) = each_edit P es e all.1 (k, omega (arith, few), is)
 
 not_root : (shape : VolumeShape) (f : BlockWords) (i : ℕ) → IsMapped shape f → (placed_at f i).kind ≡ 2 → i ≡ 1 → ⊥
-not_root shape f i h kind root = let one = h.laid.kinds.root in let two = sym (ap (λ x. (placed_at f x).kind) root) ∙ kind in omega (arith, one, two)
+not_root shape f i h kind root = let one = (h.laid.kinds.each 1 (root_ino shape h.laid.shape_fits)).1 refl in let two = sym (ap (λ x. (placed_at f x).kind) root) ∙ kind in omega (arith, one, two)
 
 pub prepared_can : (shape : VolumeShape) (f : BlockWords) (y : Seen) (j : Kept) (i : ℕ) (m : Placed) (c : SizeChange) → Prepared shape f y j i m c → CanChange shape y c
 prepared_can shape f y j i m c h = record {

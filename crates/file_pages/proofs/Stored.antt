@@ -56,7 +56,7 @@ pub stores_page : (shape : VolumeShape) (x : Seen) (k : Kept) (y : Seen) (j : Ke
 stores_page shape x k y j i p b given h own at kind wide count same firm caches idle = record {
   beside = beside;
   ready = ready_order shape y j (record {
-    has_shape = shape_beside_stored shape x y b (Some given) h.order.has_shape count (subst (λ c. reserved shape ≤ c) (sym at) (h.order.mapped.laid.numbers.from i (AtPage p) own)) caches;
+    has_shape = shape_beside_stored shape x y b (Some given) h.order.has_shape count (subst (λ c. reserved shape ≤ c) (sym at) (h.order.mapped.laid.numbers.each i own.ino (AtPage p) own.slot).0) caches;
     mapped = mapped_beside shape i x.words y.words h.order.mapped beside;
     named = named_layout l y.words y layouts (record { each = λ n ino s has on. by n ino s has on (cases_eq ((l.node n).block s) b) });
     firm = firm_layout l y.words j layouts (firm_on l k j h.order.firm firm);

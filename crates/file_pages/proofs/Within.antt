@@ -67,7 +67,7 @@ pages_apart l i first blocks laid h s t few_s few_t same =
     let one = page_page _ _ (laid.once.each i i (AtPage (first + s)) (AtPage (first + t)) (h.owns s few_s) (h.owns t few_t) (sym (h.is s few_s) ∙ same ∙ h.is t few_t)).1 in omega (arith, one)
 
 pub pages_places : (l : Layout) (i first : ℕ) (blocks : List ℕ) (count : ℕ) → IsLaid l → IsPages l i first blocks → count ≡ l.shape.blocks → (t : ℕ) → t < length blocks → slice_index blocks t < count
-pages_places l i first blocks count laid h is t few = let at = h.is t few in let to = laid.numbers.to i (AtPage (first + t)) (h.owns t few) in omega (arith, at, to, is)
+pages_places l i first blocks count laid h is t few = let at = h.is t few in let to = (laid.numbers.each i (h.owns t few).ino (AtPage (first + t)) (h.owns t few).slot).1 in omega (arith, at, to, is)
 
 -- the names of those that are cached
 pub pages_named : (m : Layout) (y : Seen) (i first : ℕ) (blocks : List ℕ) → NamedNode i (m.node i) y → (m.node i).kind ≡ 2 → IsPages m i first blocks → SpanNamed blocks first i (m.node i).size y
@@ -100,7 +100,7 @@ stores_span shape y j z l i first blocks h ino kind its b firm names idle = reco
     m = volume_layout shape y.words
 
     low_out : (c : ℕ) → c < reserved shape → Contains blocks c → ⊥
-    low_out c low on = let at = page_at m i first blocks c its on in let from = h.order.mapped.laid.numbers.from i (AtPage (first + at.0)) at.3 in let is = at.4 in omega (arith, from, low, is)
+    low_out c low on = let at = page_at m i first blocks c its on in let from = (h.order.mapped.laid.numbers.each i at.3.ino (AtPage (first + at.0)) at.3.slot).0 in let is = at.4 in omega (arith, from, low, is)
 
     free_out : (c : ℕ) → IsFree m c → Contains blocks c → ⊥
     free_out c free on = let at = page_at m i first blocks c its on in free.free (record { node = i; slot = AtPage (first + at.0); owns = at.3; is = at.4 })

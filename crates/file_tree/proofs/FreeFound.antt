@@ -12,7 +12,7 @@ used_node shape f s i reads ino used = by (cases_eq (held_of shape f i).kind 1) 
     by (inl dir) _ = ap is_none (reads.reads.nodes i ∙ reads_dir (held_of shape f i) dir)
     by (inr no_dir) (inl file) = ap is_none (reads.reads.nodes i ∙ reads_file (held_of shape f i) file)
     by (inr no_dir) (inr no_file) =
-        let few = reads.mapped.laid.kinds.each i ino in
+        let few = (reads.mapped.laid.kinds.each i ino).0 in
         let same = kind_held shape f i ino in
         ap is_none (reads.reads.nodes i ∙ reads_region (held_of shape f i) (omega (arith, few, same, used, no_dir, no_file)))
 
@@ -21,4 +21,4 @@ free_held shape f i ino free = kind_held shape f i ino ∙ free
 
 -- the root is a directory
 pub root_held : (shape : VolumeShape) (f : BlockWords) → IsMapped shape f → (held_of shape f 1).kind ≡ 1
-root_held shape f mapped = kind_held shape f 1 (root_ino shape mapped.laid.shape_fits) ∙ mapped.laid.kinds.root
+root_held shape f mapped = kind_held shape f 1 (root_ino shape mapped.laid.shape_fits) ∙ (mapped.laid.kinds.each 1 (root_ino shape mapped.laid.shape_fits)).1 refl

@@ -31,7 +31,7 @@ row_read shape f s d j name i reads dir entry =
     sym (ap (λ n. get s.names (d, n)) entry.named) ∙ reads.reads.entries d j (record { dir = dir; within = entry.within }) ∙ ap Some entry.ino
 
 pub row_used : (shape : VolumeShape) (f : BlockWords) (s : State) (d j : ℕ) (name : List ℕ) (i : ℕ) → ReadsAs shape f s → (held_of shape f d).kind ≡ 1 → IsEntry (held_of shape f d) j name i → 0 < (held_of shape f i).kind
-row_used shape f s d j name i reads dir entry = subst (λ n. 0 < (held_of shape f n).kind) entry.ino (reads.entries.used d j (record { dir = dir; within = entry.within }))
+row_used shape f s d j name i reads dir entry = subst (λ n. 0 < (held_of shape f n).kind) entry.ino (reads.entries.each d j (record { dir = dir; within = entry.within })).1
 
 pub no_row : (shape : VolumeShape) (f : BlockWords) (s : State) (d : ℕ) (name : List ℕ) → ReadsAs shape f s → ((n : ℕ) → HasRow (held_of shape f d) name n → ⊥) → get s.names (d, name) ≡ None
 no_row shape f s d name reads none = by _ refl
@@ -192,7 +192,7 @@ file_region shape f s walked i reads at region = inr (i, at, inr (refl, (region_
 pub file_left : (shape : VolumeShape) (f : BlockWords) (s : State) (i : ℕ) → ReadsAs shape f s → 0 < (held_of shape f i).kind → ((held_of shape f i).kind ≡ 1 → ⊥) → ((held_of shape f i).kind ≡ 3 → ⊥) → (held_of shape f i).kind ≡ 2
 file_left shape f s i reads used no_dir no_region =
     let ino = used_ino shape f i used in
-    let few = reads.mapped.laid.kinds.each i ino in
+    let few = (reads.mapped.laid.kinds.each i ino).0 in
     let same = kind_held shape f i ino in
     omega (arith, few, same, used, no_dir, no_region)
 

@@ -28,7 +28,7 @@ rows_fit h s reads rule = record {
       let at = reads.names d name i row in
       let one = reads.entries d at.0 at.1 in
       let same = same_some _ (entry_ino (h d) at.0) i one (ap (λ n. get s.names (d, n)) at.2 ∙ row) in
-      node_some (h (entry_ino (h d) at.0)) (rule.used d at.0 at.1) (sym (reads.nodes (entry_ino (h d) at.0)) ∙ ap (get s.nodes) same ∙ none);
+      node_some (h (entry_ino (h d) at.0)) (rule.each d at.0 at.1).1 (sym (reads.nodes (entry_ino (h d) at.0)) ∙ ap (get s.nodes) same ∙ none);
   dirs = λ d name i row. let at = reads.names d name i row in ap is_dir (reads.nodes d ∙ reads_dir (h d) at.1.dir);
 }
 

@@ -93,8 +93,8 @@ by_each h s r = record {
     rows = record { on = rows.on x; back = rows.back x };
     apart = λ dir a b in_a in_b. r.apart.each x a b (record { dir = dir; within = in_a }) (record { dir = dir; within = in_b });
   };
-  named = λ x name v e. let at = rows.back x name v e in subst IsName at.1.1.named (r.entries.named x at.1.0 (entry_of x name v at));
-  used = λ x name v e. let at = rows.back x name v e in node_some (h v) (get s.nodes v) (r.reads.nodes v) (subst (λ i. 0 < (h i).kind) at.1.1.ino (r.entries.used x at.1.0 (entry_of x name v at)));
+  named = λ x name v e. let at = rows.back x name v e in subst IsName at.1.1.named (r.entries.each x at.1.0 (entry_of x name v at)).0;
+  used = λ x name v e. let at = rows.back x name v e in node_some (h v) (get s.nodes v) (r.reads.nodes v) (subst (λ i. 0 < (h i).kind) at.1.1.ino (r.entries.each x at.1.0 (entry_of x name v at)).1);
   idle = r.reads.idle;
 }
   where
@@ -108,8 +108,7 @@ pub of_each : (h : ℕ → Held) (s : State) → EachReads h s → SoundReads h 
 of_each h s r = record {
   reads = reads_of_rows h s (λ x. (r.each x).node) (record { on = λ d. (r.each d).rows.on; back = λ d. (r.each d).rows.back }) r.idle;
   entries = record {
-    named = λ d j has. r.named d _ _ (name_at d j has);
-    used = λ d j has. some_node (h (entry_ino (h d) j)) _ (r.each _).node (r.used d _ _ (name_at d j has));
+    each = λ d j has. (r.named d _ _ (name_at d j has), some_node (h (entry_ino (h d) j)) _ (r.each _).node (r.used d _ _ (name_at d j has)));
   };
   apart = record { each = λ d a b in_a in_b. (r.each d).apart in_a.dir a b in_a.within in_b.within };
 }

@@ -31,4 +31,4 @@ walked_used shape f s i j (n ∷ ns) reads used e =
     let entry = reads.reads.names i n at.over at.row in
     let slot = entry.0 in
     let one : entry_ino (held_of shape f i) slot ≡ at.over = some_one _ _ (sym (reads.reads.entries i slot entry.1) ∙ ap (λ m. get s.names (i, m)) entry.2 ∙ at.row) in
-    walked_used shape f s at.over j ns reads (subst (λ m. 0 < (held_of shape f m).kind) one (reads.entries.used i slot entry.1)) at.rest
+    walked_used shape f s at.over j ns reads (subst (λ m. 0 < (held_of shape f m).kind) one (reads.entries.each i slot entry.1).1) at.rest

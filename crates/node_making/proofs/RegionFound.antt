@@ -37,7 +37,7 @@ no_region shape f s i r reads used other is = by (cases_eq (held_of shape f i).k
     by (inr no_dir) (inl file) = absurd (cc (reads.reads.nodes i, reads_file (held_of shape f i) file, is))
     by (inr no_dir) (inr no_file) =
         let ino = used_ino shape f i used in
-        let few = reads.mapped.laid.kinds.each i ino in
+        let few = (reads.mapped.laid.kinds.each i ino).0 in
         let same = kind_held shape f i ino in
         other (omega (arith, few, same, used, no_dir, no_file))
 

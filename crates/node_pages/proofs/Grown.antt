@@ -169,7 +169,7 @@ made_grows shape f i given len last table c h = record {
     }
 
     kind_of : PlansFor f i given → given.kind ≤ 3
-    kind_of (inl own) = subst (λ (k : ℕ). k ≤ 3) (sym own.0.kind) (h.laid.kinds.each i h.ino)
+    kind_of (inl own) = subst (λ (k : ℕ). k ≤ 3) (sym own.0.kind) (h.laid.kinds.each i h.ino).0
     kind_of (inr new) = new.3
 
     m_fits : NodeFits shape m

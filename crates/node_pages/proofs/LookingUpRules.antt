@@ -77,5 +77,5 @@ named_on shape x y mapped named h = record { each = λ i ino s has on. by i ino 
 
     by : (i : ℕ) → IsIno shape i → (s : Slot) → HasSlot (l.node i) s → ((x.cached ((l.node i).block s) ≡ true) × (y.names ((l.node i).block s) ≡ x.names ((l.node i).block s))) ⊎ BearsOwn l ((l.node i).block s) (y.names ((l.node i).block s)) → Bears i (l.node i) s (y.names ((l.node i).block s))
     by i ino s has (inl kept) = subst (Bears i (l.node i) s) (sym kept.1) (named.each i ino s has kept.0)
-    by i ino s has (inr (inl low)) = absurd (let from = mapped.laid.numbers.from i s (record { ino = ino; slot = has }) in let under = low.0 in omega (arith, from, under))
+    by i ino s has (inr (inl low)) = absurd (let from = (mapped.laid.numbers.each i ino s has).0 in let under = low.0 in omega (arith, from, under))
     by i ino s has (inr (inr (j, t, own, at, bears))) = let one = mapped.laid.once.each j i t s own (record { ino = ino; slot = has }) at in subst (λ u. Bears i (l.node i) u (y.names ((l.node i).block s))) one.1 (subst (λ z. Bears z (l.node z) t (y.names ((l.node i).block s))) one.0 bears)

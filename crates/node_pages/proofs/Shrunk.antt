@@ -70,7 +70,7 @@ made_shrinks shape f i given len c h = record {
     was_fits = node_fits (volume_layout shape f) i h.laid h.ino
 
     kind_of : PlansFor f i given → given.kind ≤ 3
-    kind_of (inl own) = subst (λ (k : ℕ). k ≤ 3) (sym own.0.kind) (h.laid.kinds.each i h.ino)
+    kind_of (inl own) = subst (λ (k : ℕ). k ≤ 3) (sym own.0.kind) (h.laid.kinds.each i h.ino).0
     kind_of (inr new) = new.3
 
     as_shrunk : (s : Slot) → HasSlot m s → HasSlot (shrunk n len) s

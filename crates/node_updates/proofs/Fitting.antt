@@ -62,4 +62,4 @@ freed_out shape y g changes before mapped all applied b (c, on, freed) own =
 pub freed_above : (shape : VolumeShape) (y : BlockWords) (changes : List NodeChange) → IsMapped shape y → AllFit shape y changes → (b : ℕ) → IsFreed changes b → reserved shape ≤ b
 freed_above shape y changes mapped all b (c, on, freed) =
     let own = (fits_of shape y changes c all on).frees b freed in
-    subst (λ x. reserved shape ≤ x) own.is (mapped.laid.numbers.from own.node own.slot own.owns)
+    subst (λ x. reserved shape ≤ x) own.is (mapped.laid.numbers.each own.node own.owns.ino own.slot own.owns.slot).0

@@ -68,7 +68,7 @@ forgets_applied shape f y g w cs before after first applied last gone = λ b los
     freed : (b : ℕ) → Owned (volume_layout shape f) b → (Owned (volume_layout shape w.words) b → ⊥) → IsFreed cs b
     freed b had none =
         let own : Owned (volume_layout shape y) b = owned_on (volume_layout shape f) (volume_layout shape y) b first had in
-        let from : reserved shape ≤ b = subst (λ x. reserved shape ≤ x) own.is (before.laid.numbers.from own.node own.slot own.owns) in
+        let from : reserved shape ≤ b = subst (λ x. reserved shape ≤ x) own.is (before.laid.numbers.each own.node own.owns.ino own.slot own.owns.slot).0 in
         let to : b < shape.blocks = owned_below (volume_layout shape y) b before.laid.numbers own in
         let free : IsFree (volume_layout shape g) b = record { from = from; to = to; free = λ o. none (owned_on (volume_layout shape g) (volume_layout shape w.words) b last o) } in
         unmarked_freed shape y g cs b applied (has_bit shape b before.laid.shape_fits to) (before.marks.counts b own) (after.marks.free b free)

@@ -30,7 +30,7 @@ pub all_touched : (l : Layout) (bears : ℕ → Option PageName → Type 0) (y z
 all_touched l bears y z laid allowed caches h = record { each = λ i ino s has on. by i ino s has (caches.each _ on) }
   where
     at : (i : ℕ) (ino : IsIno l.shape i) (s : Slot) (has : HasSlot (l.node i) s) → (z.names ((l.node i).block s) ≡ None) × MayBeMetadata l ((l.node i).block s) → Bears i (l.node i) s (z.names ((l.node i).block s))
-    at i ino s has (none, inl low) = absurd (let from = laid.numbers.from i s (record { ino = ino; slot = has }) in omega (arith, from, low))
+    at i ino s has (none, inl low) = absurd (let from = (laid.numbers.each i ino s has).0 in omega (arith, from, low))
     at i ino s has (none, inr (inl free)) = absurd (free.free (record { node = i; slot = s; owns = record { ino = ino; slot = has }; is = refl }))
     at i ino s has (none, inr (inr (j, t, own, e, bears))) =
         let one = laid.once.each j i t s own (record { ino = ino; slot = has }) e in

@@ -61,7 +61,7 @@ known_kind shape f i mapped = by (cases_Bool (nat_le 1 i && nat_le i shape.inode
     ino_of j n t = (grind (arith, nat_tests), grind (arith, nat_tests))
 
     by : ((nat_le 1 i && nat_le i shape.inodes) ≡ true) ⊎ ((nat_le 1 i && nat_le i shape.inodes) ≡ false) → (held_of shape f i).kind ≤ 3
-    by (inl e) = subst (λ b. (cond b (held f (placed_at f i)) nothing).kind ≤ 3) (sym e) (let ino = ino_of i shape.inodes e in mapped.laid.kinds.each i (record { from = ino.0; to = ino.1 }))
+    by (inl e) = subst (λ b. (cond b (held f (placed_at f i)) nothing).kind ≤ 3) (sym e) (let ino = ino_of i shape.inodes e in (mapped.laid.kinds.each i (record { from = ino.0; to = ino.1 })).0)
     by (inr e) = subst (λ b. (cond b (held f (placed_at f i)) nothing).kind ≤ 3) (sym e) (omega arith)
 
 -- blocks that read as one state have the same regions

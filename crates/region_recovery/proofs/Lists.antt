@@ -120,7 +120,7 @@ pub nth_ino : (shape : VolumeShape) (n : ℕ) → n < shape.inodes → IsIno sha
 nth_ino shape n less = record { from = omega arith; to = omega (arith, less) }
 
 pub kind_on : (shape : VolumeShape) (f g : BlockWords) (i : ℕ) → KindRule (volume_layout shape f) → IsIno shape i → g ≡ f → inode_kind g i ≤ 3
-kind_on shape f g i kinds ino same = subst (λ h. inode_kind h i ≤ 3) (sym same) (kinds.each i ino)
+kind_on shape f g i kinds ino same = subst (λ h. inode_kind h i ≤ 3) (sym same) (kinds.each i ino).0
 
 -- the block of an inode is one of metadata
 pub inode_cached : (shape : VolumeShape) (x y : Seen) (i : ℕ) → IsShape shape → IsIno shape i → Caches x y (inode_block i) None → CachesBy (IsMetadata shape) x y

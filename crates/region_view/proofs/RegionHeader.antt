@@ -32,7 +32,7 @@ header_owned shape f i h = record { ino = h.ino; slot = h.page }
 
 -- its block is one of the volume's
 pub header_block : (shape : VolumeShape) (f : BlockWords) (y : Seen) (i b : ℕ) → IsMapped shape f → HasHeader shape f i → HasShape shape y → b ≡ (placed_at f i).block (AtPage 0) → b < y.count
-header_block shape f y i b mapped h has_shape at = subst (λ n. b < n) (sym has_shape.count) (subst (λ c. c < shape.blocks) (sym at) (mapped.laid.numbers.to i (AtPage 0) (header_owned shape f i h)))
+header_block shape f y i b mapped h has_shape at = subst (λ n. b < n) (sym has_shape.count) (subst (λ c. c < shape.blocks) (sym at) (mapped.laid.numbers.each i (header_owned shape f i h).ino (AtPage 0) (header_owned shape f i h).slot).1)
 
 -- the name that it is read under
 abbrev pub IsHeaderName : ℕ → PageName → Type 0
@@ -82,7 +82,7 @@ header_named shape f y z i b name mapped h named at is caches = record { each = 
     by j ino s has on (inr away) = kept j ino s has (caches.others _ away on)
 
 pub header_shape : (shape : VolumeShape) (f : BlockWords) (y z : Seen) (i b : ℕ) (name : PageName) → IsMapped shape f → HasHeader shape f i → HasShape shape y → b ≡ (placed_at f i).block (AtPage 0) → Looks y z → Caches y z b (Some name) → HasShape shape z
-header_shape shape f y z i b name mapped h has_shape at looks caches = shape_beside shape y z b (Some name) has_shape looks.count (subst (λ c. reserved shape ≤ c) (sym at) (mapped.laid.numbers.from i (AtPage 0) (header_owned shape f i h))) caches
+header_shape shape f y z i b name mapped h has_shape at looks caches = shape_beside shape y z b (Some name) has_shape looks.count (subst (λ c. reserved shape ≤ c) (sym at) (mapped.laid.numbers.each i (header_owned shape f i h).ino (AtPage 0) (header_owned shape f i h).slot).0) caches
 
 -- ---- its words
 

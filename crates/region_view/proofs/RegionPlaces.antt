@@ -47,7 +47,7 @@ direct_page shape f i at n mapped region less is few = word_page shape f f i at 
 
 -- it is one of the volume's
 pub page_below : (shape : VolumeShape) (y : Seen) (i at b : ℕ) → CanRead shape y → IsWordPage shape y.words i at b → b < y.count
-page_below shape y i at b can h = subst (λ n. b < n) (sym can.has_shape.count) (subst (λ c. c < shape.blocks) (sym h.block) (can.mapped.laid.numbers.to i (AtPage (at / 512)) h.own))
+page_below shape y i at b can h = subst (λ n. b < n) (sym can.has_shape.count) (subst (λ c. c < shape.blocks) (sym h.block) (can.mapped.laid.numbers.each i h.own.ino (AtPage (at / 512)) h.own.slot).1)
 
 -- ---- the name that it is asked for under
 
@@ -84,7 +84,7 @@ pub page_done : (shape : VolumeShape) (x : Seen) (k : Kept) (y : Seen) (j : Kept
 page_done shape x k y j i at b given h on name count same firm caches idle = record {
   beside = beside;
   ready = ready_order shape y j (record {
-    has_shape = shape_beside_stored shape x y b (Some given) h.order.has_shape count (subst (λ c. reserved shape ≤ c) (sym on.block) (h.order.mapped.laid.numbers.from i (AtPage p) on.own)) caches;
+    has_shape = shape_beside_stored shape x y b (Some given) h.order.has_shape count (subst (λ c. reserved shape ≤ c) (sym on.block) (h.order.mapped.laid.numbers.each i on.own.ino (AtPage p) on.own.slot).0) caches;
     mapped = mapped_beside shape i x.words y.words h.order.mapped beside;
     named = named_layout l y.words y layouts (record { each = λ n ino s has cached. by n ino s has cached (cases_eq ((l.node n).block s) b) });
     firm = firm_layout l y.words j layouts (firm_on l k j h.order.firm firm);

@@ -57,7 +57,7 @@ kind_few : (l : Layout) (f : BlockWords) (i : ℕ) → KindRule l → (held_in l
 kind_few l f i rule = by (nat_le 1 i && nat_le i l.shape.inodes) refl
   where
     by : (b : Bool) → (nat_le 1 i && nat_le i l.shape.inodes) ≡ b → (cond b (held f (l.node i)) nothing).kind ≤ 3
-    by true t = rule.each i (record { from = number_from i l.shape.inodes t; to = number_to i l.shape.inodes t })
+    by true t = (rule.each i (record { from = number_from i l.shape.inodes t; to = number_to i l.shape.inodes t })).0
     by false t = omega arith
 
 -- it is of the kind of regions
@@ -90,11 +90,11 @@ named_some shape f s d name j h e none =
     let at = h.reads.names d name j e in
     let entry = subst (λ x. get s.names (d, x) ≡ Some (entry_ino (held_of shape f d) at.0)) at.2 (h.reads.entries d at.0 at.1) in
     let same : entry_ino (held_of shape f d) at.0 ≡ j = cc (entry, e) in
-    some_held (held_of shape f j) _ refl (subst (λ x. 0 < (held_of shape f x).kind) same (h.entries.used d at.0 at.1)) (sym (h.reads.nodes j) ∙ none)
+    some_held (held_of shape f j) _ refl (subst (λ x. 0 < (held_of shape f x).kind) same (h.entries.each d at.0 at.1).1) (sym (h.reads.nodes j) ∙ none)
 
 root_some : (shape : VolumeShape) (f : BlockWords) (s : State) → ReadsAs shape f s → get s.nodes 1 ≢ None
 root_some shape f s h none =
-    let kind : (held_of shape f 1).kind ≡ 1 = ap (λ (x : Held). x.kind) (held_ino (volume_layout shape f) f 1 (root_ino shape h.mapped.laid.shape_fits)) ∙ h.mapped.laid.kinds.root in
+    let kind : (held_of shape f 1).kind ≡ 1 = ap (λ (x : Held). x.kind) (held_ino (volume_layout shape f) f 1 (root_ino shape h.mapped.laid.shape_fits)) ∙ (h.mapped.laid.kinds.each 1 (root_ino shape h.mapped.laid.shape_fits)).1 refl in
     cc (none, h.reads.nodes 1, reads_dir (held_of shape f 1) kind)
 
 walk_step : (shape : VolumeShape) (f : BlockWords) (s : State) (x : ℕ) (n : List ℕ) (ns : List (List ℕ)) (i : ℕ) (b : Bool) (o : Option ℕ) → ReadsAs shape f s → get s.names (x, n) ≡ o → cond b (from_found o (λ j. walk s j ns)) (Err 4) ≡ Ok i → ((j : ℕ) → walk s j ns ≡ Ok i → get s.nodes j ≢ None → get s.nodes i ≢ None) → get s.nodes i ≢ None

@@ -206,7 +206,7 @@ node_as_placed shape f s i h ino = by_kind _ refl
     fits = h.mapped.laid.sizes.each i ino
 
     most : n.kind ≤ 3
-    most = h.mapped.laid.kinds.each i ino
+    most = (h.mapped.laid.kinds.each i ino).0
 
     used_by : (node : Node) → 0 < n.kind → get s.nodes i ≡ Some node → node_blocks s i (Some node) ≡ blocks_for n.size → node_blocks s i (get s.nodes i) ≡ placed_blocks n
     used_by node used is same = ap (node_blocks s i) is ∙ same ∙ sym (placed_used n used)

@@ -254,7 +254,7 @@ odd_root_fails shape f v served h odd = only (put f 2 1 v) shape.blocks 4 2 (inr
     kinds : KindRule (volume_layout shape (put f 2 1 v))
     kinds =
         let rule = (fresh_reads shape f 0 0 h).mapped.laid.kinds in
-        record { each = λ i ino. subst (λ k. k ≤ 3) (sym (kind i)) (rule.each i ino); root = root }
+        record { each = λ i ino. (subst (λ k. k ≤ 3) (sym (kind i)) (rule.each i ino).0, λ e. subst (λ x. inode_kind (put f 2 1 v) x ≡ 1) (sym e) root) }
 
 -- ---- one entry
 

@@ -94,8 +94,7 @@ fresh_reads shape f pages scratch h = record {
     };
   };
   entries = record {
-    named = λ d j has. absurd (no_entry shape f d j h has);
-    used = λ d j has. absurd (no_entry shape f d j h has);
+    each = λ d j has. (absurd (no_entry shape f d j h has), absurd (no_entry shape f d j h has));
   };
   apart = record { each = λ d j k hj hk e. absurd (no_entry shape f d j h hj) };
   tree = record {

@@ -5,7 +5,7 @@ use Rattle.rio_model.specs.Held.{held, held_ino, held_of}
 use Rattle.rio_model.proofs.HeldRules.{held_agree, held_at, held_by}
 use Rattle.rio_model.specs.NodeChanges.{Without, Available, Change}
 use Rattle.rio_model.specs.Placed.{Slot, AtPage, AtTable, Placed, HasSlot, Lies, Layout, volume_layout, Owns}
-use Rattle.rio_model.proofs.PlacedRules.{Lays, with_placed, lies_agree, lays_self, node_fits, laid_by_nodes, inode_low, inode_no_bitmap, superblock_no_bitmap, above_no_bitmap, has_bit, reserved_below, mapped_by}
+use Rattle.rio_model.proofs.PlacedRules.{Lays, with_placed, lies_agree, lays_self, node_fits, laid_by_nodes, inode_low, inode_no_bitmap, superblock_no_bitmap, above_no_bitmap, has_bit, reserved_below, mapped_by, root_ino}
 use Rattle.rio_model.specs.VolumeRules.{SuperblockRule, ReservedRule, MarkRule, IsLaid, IsMapped, NodeFits}
 use Rattle.rio_model.proofs.WordRules.{differs, itself}
 
@@ -49,7 +49,7 @@ without_past shape n b fits past = λ s has same. let to = fits.to s has in omeg
 
 other_block : (l : Layout) (f g : BlockWords) (i j : ℕ) (m : Placed) (s : Slot) → IsLaid l → Change l f g i m → j ≢ i → Owns l j s → (w : ℕ) → g ((l.node j).block s) w ≡ f ((l.node j).block s) w
 other_block l f g i j m s h c away own w =
-    let from = h.numbers.from j s own in
+    let from = (h.numbers.each j own.ino s own.slot).0 in
     let low = inode_low l.shape i h.shape_fits c.ino in
     c.does.elsewhere _ w (above_no_bitmap l.shape _ from) (λ same. omega (arith, from, low, same)) (without_old l i j s h c.ino away own) (without_new l f g i j m s h c away own)
 
@@ -88,7 +88,7 @@ pub laid_replaced : (l : Layout) (f g : BlockWords) (i : ℕ) (m : Placed) → I
 laid_replaced l f g i m h c = laid_by_nodes (with_placed l i m) h.shape_fits
     (elim (cases_eq 1 i) [
       | inl same ↦ ap (λ (n : Placed). n.kind) (ap (with_placed l i m).node same ∙ node_here l i m) ∙ c.root (sym same)
-      | inr away ↦ ap (λ (n : Placed). n.kind) (node_there l i m 1 away) ∙ h.kinds.root
+      | inr away ↦ ap (λ (n : Placed). n.kind) (node_there l i m 1 away) ∙ (h.kinds.each 1 (root_ino l.shape h.shape_fits)).1 refl
     ])
     (λ j ino. elim (cases_eq j i) [
       | inl same ↦ subst (λ (n : Placed). NodeFits l.shape n) (sym (ap (with_placed l i m).node same ∙ node_here l i m)) c.fits
@@ -114,7 +114,7 @@ marks_replaced l f g i m h c k = record {
     | inr away ↦
         let was = owns_there l i m own.node own.slot away own.owns in
         let at = sym (block_there l i m own.node own.slot away) ∙ own.is in
-        sym (ap bit at) ∙ c.bits.others _ (has_bit l.shape _ h.shape_fits (h.numbers.to own.node own.slot was)) (without_old l i own.node own.slot h c.ino away was) (without_new l f g i own.node m own.slot h c away was) ∙ k.counts _ (record { node = own.node; slot = own.slot; owns = was; is = refl })
+        sym (ap bit at) ∙ c.bits.others _ (has_bit l.shape _ h.shape_fits (h.numbers.each own.node was.ino own.slot was.slot).1) (without_old l i own.node own.slot h c.ino away was) (without_new l f g i own.node m own.slot h c away was) ∙ k.counts _ (record { node = own.node; slot = own.slot; owns = was; is = refl })
   ];
   free = λ b none. elim (cases_eq (bit b) 0) [
     | inl zero ↦ zero

@@ -21,7 +21,7 @@ OwnerLets l b (TableOf i t) name = name ≡ None
 
 one_owner : (l : Layout) (b i : ℕ) (s : Slot) (name : Option PageName) → IsLaid l → Owns l i s → (l.node i).block s ≡ b → Bears i (l.node i) s name → MayBear l b name
 one_owner l b i s name h own is lets = record {
-  low = λ low. absurd (let from = h.numbers.from i s own in omega (arith, from, is, low));
+  low = λ low. absurd (let from = (h.numbers.each i own.ino s own.slot).0 in omega (arith, from, is, low));
   owned = λ j t other at.
       let same = h.once.each i j s t own other (is ∙ sym at) in
       subst (λ x. Bears x (l.node x) t name) same.0 (subst (λ x. Bears i (l.node i) x name) same.1 lets);

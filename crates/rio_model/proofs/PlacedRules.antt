@@ -166,19 +166,19 @@ root_ino shape h = record { from = omega arith; to = omega arith }
 
 pub node_fits : (l : Layout) (i : ℕ) → IsLaid l → IsIno l.shape i → NodeFits l.shape (l.node i)
 node_fits l i h ino = record {
-  kind = h.kinds.each i ino;
+  kind = (h.kinds.each i ino).0;
   size = h.sizes.each i ino;
-  from = λ s has. h.numbers.from i s (record { ino = ino; slot = has });
-  to = λ s has. h.numbers.to i s (record { ino = ino; slot = has });
+  from = λ s has. (h.numbers.each i ino s has).0;
+  to = λ s has. (h.numbers.each i ino s has).1;
   apart = λ s t hs ht e. (h.once.each i i s t (record { ino = ino; slot = hs }) (record { ino = ino; slot = ht }) e).1;
 }
 
 pub laid_by_nodes : (l : Layout) → IsShape l.shape → (l.node 1).kind ≡ 1 → ((i : ℕ) → IsIno l.shape i → NodeFits l.shape (l.node i)) → ((i j : ℕ) (s t : Slot) → Owns l i s → Owns l j t → (l.node i).block s ≡ (l.node j).block t → i ≡ j) → IsLaid l
 laid_by_nodes l shape root each apart = record {
   shape_fits = shape;
-  kinds = record { each = λ i ino. (each i ino).kind; root = root };
+  kinds = record { each = λ i ino. ((each i ino).kind, λ e. subst (λ x. (l.node x).kind ≡ 1) (sym e) root) };
   sizes = record { each = λ i ino. (each i ino).size };
-  numbers = record { from = λ i s own. (each i own.ino).from s own.slot; to = λ i s own. (each i own.ino).to s own.slot };
+  numbers = record { each = λ i ino s has. ((each i ino).from s has, (each i ino).to s has) };
   once = record { each = λ i j s t oi oj e. (apart i j s t oi oj e, slots i j s t oi oj e (apart i j s t oi oj e)) };
 }
   where
@@ -198,7 +198,7 @@ fits_same shape n m e h = record {
 }
 
 pub laid_same : (l m : Layout) → SameLayout l m → IsLaid l → IsLaid m
-laid_same l m e h = laid_by_nodes m (subst IsShape (sym e.shape) h.shape_fits) ((e.each 1 (root_ino l.shape h.shape_fits)).kind ∙ h.kinds.root)
+laid_same l m e h = laid_by_nodes m (subst IsShape (sym e.shape) h.shape_fits) ((e.each 1 (root_ino l.shape h.shape_fits)).kind ∙ (h.kinds.each 1 (root_ino l.shape h.shape_fits)).1 refl)
     (λ i ino. let was : IsIno l.shape i = subst (λ sh. IsIno sh i) e.shape ino in subst (λ sh. NodeFits sh (m.node i)) (sym e.shape) (fits_same l.shape _ _ (e.each i was) (node_fits l i h was)))
     (λ i j s t a b same. let oa = owns_back l m i s e a in let ob = owns_back l m j t e b in (h.once.each i j s t oa ob (sym ((e.each i oa.ino).blocks s oa.slot) ∙ same ∙ (e.each j ob.ino).blocks t ob.slot)).0)
 
@@ -229,7 +229,7 @@ reserved_same shape f g h bits k = record {
 }
 
 pub owned_below : (l : Layout) (b : ℕ) → NumberRule l → Owned l b → b < l.shape.blocks
-owned_below l b h own = subst (λ x. x < l.shape.blocks) own.is (h.to own.node own.slot own.owns)
+owned_below l b h own = subst (λ x. x < l.shape.blocks) own.is (h.each own.node own.owns.ino own.slot own.owns.slot).1
 
 pub marks_same : (l m : Layout) (f g : BlockWords) → SameLayout l m → IsLaid l → ((b : ℕ) → b < bitmap_bits l.shape → used_bit l.shape g b ≡ used_bit l.shape f b) → MarkRule l f → MarkRule m g
 marks_same l m f g e h bits k = record {

@@ -83,8 +83,7 @@ entry_on h k i d j s has = elim (cases_eq d i) [
 
 pub entries_set : (h k : ℕ → Held) (i : ℕ) → SetsNode h k i → EntryRule h → EntryRule k
 entries_set h k i s r = record {
-  named = λ d j has. let was = entry_back h k i d j s has in subst (λ (x : Held). IsName (entry_name x j)) (sym (s.others d was.0)) (r.named d j was.1);
-  used = λ d j has. let was = entry_back h k i d j s has in by_ino (entry_ino (k d) j) (entry_ino (h d) j) (ap (λ (x : Held). entry_ino x j) (s.others d was.0)) (r.used d j was.1);
+  each = λ d j has. ((let was = entry_back h k i d j s has in subst (λ (x : Held). IsName (entry_name x j)) (sym (s.others d was.0)) (r.each d j was.1).0), (let was = entry_back h k i d j s has in by_ino (entry_ino (k d) j) (entry_ino (h d) j) (ap (λ (x : Held). entry_ino x j) (s.others d was.0)) (r.each d j was.1).1));
 }
   where
     by_ino : (a b : ℕ) → a ≡ b → 0 < (h b).kind → 0 < (k a).kind

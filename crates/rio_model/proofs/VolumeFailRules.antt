@@ -3,7 +3,7 @@ use Rattle.rio_model.proofs.Common.{◌≡◌, ◌≢◌, ◌⊎◌, ℕ, ◌+�
 use Rattle.std.proofs.Common.{Ok, Err}
 use Rattle.std.specs.Prelude.{Result}
 use Rattle.std.proofs.lemmas.Bool.{eqb-true}
-use Rattle.rio_base.specs.Shapes.{IsServed, IsShape}
+use Rattle.rio_base.specs.Shapes.{IsServed}
 use Rattle.rio_model.specs.declared.node.Node.TheVariants.{Dir, File, Region}
 use Rattle.rio_model.specs.declared.state.State.{State}
 use Rattle.rio_model.specs.Cover.{stands}
@@ -11,41 +11,19 @@ use Rattle.rio_model.specs.Held.{HasEntry, Held, entry_ino, held_bytes, held_of}
 use Rattle.rio_model.specs.Paths.{from_found, is_dir, walk}
 use Rattle.rio_model.specs.Placed.{Layout, volume_layout}
 use Rattle.rio_model.specs.Standing.{EntriesFit, StandsFor}
-use Rattle.rio_model.specs.VolumeFails.{ApartAt, CountsTwice, EntryAt, FailsEntries, FailsFirst, FailsHeld, FailsOn, FailsPair, FailsTree, FailsVolume, HasNoName, HasOneName, IsLeastTwice, KindAt, NumberAt, RegionAt, SizeAt, TreeAt}
+use Rattle.rio_model.specs.VolumeFails.{CountsTwice, FailsEntries, FailsFirst, FailsHeld, FailsOn, FailsPair, FailsTree, FailsVolume, HasNoName, HasOneName, IsLeastTwice, TreeAt}
 use Rattle.rio_model.specs.VolumeReads.{Reads, ReadsAs, node_in, region_in}
-use Rattle.rio_model.specs.VolumeRules.{EntryRule, KindRule, NamesApartRule, NumberRule, OnceRule, RegionRule, SizeRule, TreeRule}
+use Rattle.rio_model.specs.VolumeRules.{EntryRule, NamesApartRule, OnceRule, RegionRule, TreeRule, ApartAt, EntryAt, KindAt, NumberAt, RegionAt, SizeAt}
 use Rattle.rio_model.proofs.OneReading.{one_reading}
-use Rattle.rio_model.proofs.PlacedRules.{root_ino}
 use Rattle.rio_model.proofs.ReadStates.{HoldsWithin}
 use Rattle.rio_model.proofs.StandingStates.{AreWhole, one_shape, stands_with_reads}
 use Rattle.rio_model.proofs.StateSteps.{KeepsWalks, walk_kept}
 use Rattle.rio_model.proofs.VolumeReadRules.{reads_none}
 
--- ---- each rule, inode by inode
-
-pub kind_each : (l : Layout) → KindRule l → (i : ℕ) → IsIno l.shape i → KindAt l i
-kind_each l h i ino = (h.each i ino, λ e. subst (λ x. (l.node x).kind ≡ 1) (sym e) h.root)
-
-pub kind_rule : (l : Layout) → IsShape l.shape → ((i : ℕ) → IsIno l.shape i → KindAt l i) → KindRule l
-kind_rule l shape h = record { each = λ i ino. (h i ino).0; root = (h 1 (root_ino l.shape shape)).1 refl }
-
-pub size_each : (l : Layout) → SizeRule l → (i : ℕ) → IsIno l.shape i → SizeAt l i
-size_each l h i ino used = h.each i ino used
-
-pub size_rule : (l : Layout) → ((i : ℕ) → IsIno l.shape i → SizeAt l i) → SizeRule l
-size_rule l h = record { each = λ i ino used. h i ino used }
-
-pub number_each : (l : Layout) → NumberRule l → (i : ℕ) → IsIno l.shape i → NumberAt l i
-number_each l h i ino s has = (h.from i s (record { ino = ino; slot = has }), h.to i s (record { ino = ino; slot = has }))
-
-pub number_rule : (l : Layout) → ((i : ℕ) → IsIno l.shape i → NumberAt l i) → NumberRule l
-number_rule l h = record { from = λ i s own. (h i own.ino s own.slot).0; to = λ i s own. (h i own.ino s own.slot).1 }
+-- ---- rules on what is held, from each inode
 
 pub once_each : (l : Layout) → OnceRule l → (b : ℕ) → CountsTwice l b → ⊥
 once_each l h b c = c.two (h.each c.i c.j c.s c.t c.one.0 c.other.0 (c.one.1 ∙ sym c.other.1))
-
-pub entry_each : (held : ℕ → Held) → EntryRule held → (d : ℕ) → EntryAt held d
-entry_each held h d j has = (h.named d j has, h.used d j has)
 
 -- what holds something is an inode
 pub ino_held : (shape : VolumeShape) (held : ℕ → Held) (i : ℕ) → HoldsWithin shape held → 0 < (held i).kind → IsIno shape i
@@ -65,16 +43,10 @@ dir_ino : (shape : VolumeShape) (held : ℕ → Held) (d j : ℕ) → HoldsWithi
 dir_ino shape held d j within has = ino_held shape held d within (let one = has.dir in omega (arith, one))
 
 pub entry_rule : (shape : VolumeShape) (held : ℕ → Held) → HoldsWithin shape held → ((d : ℕ) → IsIno shape d → EntryAt held d) → EntryRule held
-entry_rule shape held within h = record { named = λ d j has. (h d (dir_ino shape held d j within has) j has).0; used = λ d j has. (h d (dir_ino shape held d j within has) j has).1 }
-
-pub apart_each : (held : ℕ → Held) → NamesApartRule held → (d : ℕ) → ApartAt held d
-apart_each held h d j k x y e = h.each d j k x y e
+entry_rule shape held within h = record { each = λ d j has. h d (dir_ino shape held d j within has) j has }
 
 pub apart_rule : (shape : VolumeShape) (held : ℕ → Held) → HoldsWithin shape held → ((d : ℕ) → IsIno shape d → ApartAt held d) → NamesApartRule held
 apart_rule shape held within h = record { each = λ d j k x y e. h d (dir_ino shape held d j within x) j k x y e }
-
-pub region_each : (held : ℕ → Held) → RegionRule held → (i : ℕ) → RegionAt held i
-region_each held h i three = h.each i three
 
 pub region_rule : (shape : VolumeShape) (held : ℕ → Held) → HoldsWithin shape held → ((i : ℕ) → IsIno shape i → RegionAt held i) → RegionRule held
 region_rule shape held within h = record { each = λ i three. h i (ino_held shape held i within (omega (arith, three))) three }
@@ -134,7 +106,7 @@ tree_rule shape held s within entries reads root_kind h = record {
     named : (d : ℕ) (a : List ℕ) (i : ℕ) → get s.names (d, a) ≡ Some i → 0 < (held i).kind
     named d a i e =
         let at = reads.names d a i e in
-        subst (λ x. 0 < (held x).kind) (same (entry_ino (held d) at.0) i (sym (reads.entries d at.0 at.1) ∙ ap (λ x. get s.names (d, x)) at.2 ∙ e)) (entries.used d at.0 at.1)
+        subst (λ x. 0 < (held x).kind) (same (entry_ino (held d) at.0) i (sym (reads.entries d at.0 at.1) ∙ ap (λ x. get s.names (d, x)) at.2 ∙ e)) (entries.each d at.0 at.1).1
       where
         same : (x y : ℕ) → Some x ≡ Some y → x ≡ y
         same x y e = cc
@@ -184,19 +156,19 @@ none_first : (shape : VolumeShape) (keeps : ℕ → Type 0) (b : ℕ) → FailsF
 none_first shape keeps b h all = h.fails (all h.ino h.is_ino)
 
 none_held : (shape : VolumeShape) (f : BlockWords) (s : State) (rule b : ℕ) → ReadsAs shape f s → FailsHeld shape (held_of shape f) rule b → ⊥
-none_held shape f s rule b h (inl x) = none_first shape _ b x.1 (λ i ino. entry_each (held_of shape f) h.entries i)
-none_held shape f s rule b h (inr (_, inl x)) = none_first shape _ b x.1 (λ i ino. apart_each (held_of shape f) h.apart i)
+none_held shape f s rule b h (inl x) = none_first shape _ b x.1 (λ i ino. h.entries.each i)
+none_held shape f s rule b h (inr (_, inl x)) = none_first shape _ b x.1 (λ i ino. h.apart.each i)
 none_held shape f s rule b h (inr (_, inr (_, x))) = by x.fails
   where
     by : ((rule ≡ 10) × FailsFirst shape (TreeAt x.state) b) ⊎ (TreeRule x.state × (rule ≡ 11) × FailsFirst shape (RegionAt (held_of shape f)) b) → ⊥
     by (inl t) = none_first shape _ b t.1 (λ i ino. tree_read (held_of shape f) s x.state h.reads x.reads i (tree_each s h.tree i))
-    by (inr r) = none_first shape _ b r.2 (λ i ino. region_each (held_of shape f) h.regions i)
+    by (inr r) = none_first shape _ b r.2 (λ i ino. h.regions.each i)
 
 none_on : (shape : VolumeShape) (f : BlockWords) (s : State) (rule b : ℕ) → ReadsAs shape f s → FailsOn shape f rule b → ⊥
 none_on shape f s rule b h (inl x) = x.2 h.mapped.reserved_marked
-none_on shape f s rule b h (inr (_, inl x)) = none_first shape _ b x.1 (kind_each (volume_layout shape f) h.mapped.laid.kinds)
-none_on shape f s rule b h (inr (_, inr (_, inl x))) = none_first shape _ b x.1 (size_each (volume_layout shape f) h.mapped.laid.sizes)
-none_on shape f s rule b h (inr (_, inr (_, inr (_, inl x)))) = none_first shape _ b x.1 (number_each (volume_layout shape f) h.mapped.laid.numbers)
+none_on shape f s rule b h (inr (_, inl x)) = none_first shape _ b x.1 h.mapped.laid.kinds.each
+none_on shape f s rule b h (inr (_, inr (_, inl x))) = none_first shape _ b x.1 h.mapped.laid.sizes.each
+none_on shape f s rule b h (inr (_, inr (_, inr (_, inl x)))) = none_first shape _ b x.1 h.mapped.laid.numbers.each
 none_on shape f s rule b h (inr (_, inr (_, inr (_, inr (_, inl x))))) = once_each (volume_layout shape f) h.mapped.laid.once b x.1.twice
 none_on shape f s rule b h (inr (_, inr (_, inr (_, inr (_, inr (_, inl x)))))) = x.2 h.mapped.marks
 none_on shape f s rule b h (inr (_, inr (_, inr (_, inr (_, inr (_, inr (_, x))))))) = none_held shape f s rule b h x
@@ -273,11 +245,11 @@ once_tree shape held p q a b h k = by h.fails k.fails
 
 once_held : (shape : VolumeShape) (held : ℕ → Held) (p q a b : ℕ) → FailsHeld shape held p a → FailsHeld shape held q b → (p ≡ q) × (a ≡ b)
 once_held shape held p q a b (inl x) (inl y) = (x.0 ∙ sym y.0, once_here shape _ a b x.1 y.1)
-once_held shape held p q a b (inl x) (inr y) = absurd (none_first shape _ a x.1 (λ i ino. entry_each held y.0 i))
-once_held shape held p q a b (inr x) (inl y) = absurd (none_first shape _ b y.1 (λ i ino. entry_each held x.0 i))
+once_held shape held p q a b (inl x) (inr y) = absurd (none_first shape _ a x.1 (λ i ino. y.0.each i))
+once_held shape held p q a b (inr x) (inl y) = absurd (none_first shape _ b y.1 (λ i ino. x.0.each i))
 once_held shape held p q a b (inr (_, inl x)) (inr (_, inl y)) = (x.0 ∙ sym y.0, once_here shape _ a b x.1 y.1)
-once_held shape held p q a b (inr (_, inl x)) (inr (_, inr y)) = absurd (none_first shape _ a x.1 (λ i ino. apart_each held y.0 i))
-once_held shape held p q a b (inr (_, inr x)) (inr (_, inl y)) = absurd (none_first shape _ b y.1 (λ i ino. apart_each held x.0 i))
+once_held shape held p q a b (inr (_, inl x)) (inr (_, inr y)) = absurd (none_first shape _ a x.1 (λ i ino. y.0.each i))
+once_held shape held p q a b (inr (_, inr x)) (inr (_, inl y)) = absurd (none_first shape _ b y.1 (λ i ino. x.0.each i))
 once_held shape held p q a b (inr (_, inr x)) (inr (_, inr y)) = once_tree shape held p q a b x.1 y.1
 
 -- of two sums, each of a failure or of a rule that holds and what is behind it
@@ -294,9 +266,9 @@ once_rule shape keeps r p q a b x y = (x.0 ∙ sym y.0, once_here shape keeps a 
 once_on : (shape : VolumeShape) (f : BlockWords) (p q a b : ℕ) → FailsOn shape f p a → FailsOn shape f q b → (p ≡ q) × (a ≡ b)
 once_on shape f p q a b =
     fork (λ x y. (x.0 ∙ sym y.0, x.1 ∙ sym y.1)) (λ x h. x.2 h) (λ y h. y.2 h) (
-    fork (once_rule shape (KindAt l) 3 p q a b) (λ x h. none_first shape _ a x.1 (kind_each l h)) (λ y h. none_first shape _ b y.1 (kind_each l h)) (
-    fork (once_rule shape (SizeAt l) 4 p q a b) (λ x h. none_first shape _ a x.1 (size_each l h)) (λ y h. none_first shape _ b y.1 (size_each l h)) (
-    fork (once_rule shape (NumberAt l) 5 p q a b) (λ x h. none_first shape _ a x.1 (number_each l h)) (λ y h. none_first shape _ b y.1 (number_each l h)) (
+    fork (once_rule shape (KindAt l) 3 p q a b) (λ x h. none_first shape _ a x.1 h.each) (λ y h. none_first shape _ b y.1 h.each) (
+    fork (once_rule shape (SizeAt l) 4 p q a b) (λ x h. none_first shape _ a x.1 h.each) (λ y h. none_first shape _ b y.1 h.each) (
+    fork (once_rule shape (NumberAt l) 5 p q a b) (λ x h. none_first shape _ a x.1 h.each) (λ y h. none_first shape _ b y.1 h.each) (
     fork (λ x y. (x.0 ∙ sym y.0, once_twice l a b x.1 y.1)) (λ x h. once_each l h a x.1.twice) (λ y h. once_each l h b y.1.twice) (
     fork (λ x y. (x.0 ∙ sym y.0, x.1 ∙ sym y.1)) (λ x h. x.2 h) (λ y h. y.2 h) (
     once_held shape (held_of shape f) p q a b))))))

@@ -74,7 +74,7 @@ beside_free l i f g b ino free same = beside_agrees l i f g ino (free_agrees l f
 
 pub beside_page : (l : Layout) (i p : ℕ) (f g : BlockWords) → IsLaid l → Owns l i (AtPage p) → SameBut ((l.node i).block (AtPage p)) f g → AgreesBeside l i f g
 beside_page l i p f g h own same = record {
-  low = λ c x few. same.others c x (λ e. let from = h.numbers.from i (AtPage p) own in omega (arith, few, from, e));
+  low = λ c x few. same.others c x (λ e. let from = (h.numbers.each i own.ino (AtPage p) own.slot).0 in omega (arith, few, from, e));
   tables = λ t has x. same.others _ x (λ e. table_page t p ((h.once.each i i (AtTable t) (AtPage p) (record { ino = own.ino; slot = has }) own e).1));
   others = λ j s away oj x. same.others _ x (λ e. away ((h.once.each j i s (AtPage p) oj own e).0));
 }

@@ -1,23 +1,21 @@
 -- Which rule of a volume fails first, and the block that is told with it: of rules on inodes the block of the least inode that
 -- does not keep it, of rules on blocks the least block. Each rule supposes those before it.
-use Rattle.std.specs.Prelude.{◌≡◌, ◌≢◌, ℕ, ◌/◌, ◌<◌, ◌≤◌, ◌⊎◌, List, length, None, Some, Ok}
+use Rattle.std.specs.Prelude.{◌≡◌, ◌≢◌, ℕ, ◌<◌, ◌⊎◌, List, length, None, Some, Ok}
 use Rattle.std.specs.FinMap.{get}
 use Rattle.rio_base.specs.declared.places.VolumeShape.{VolumeShape}
 use Rattle.rio_base.specs.Blocks.{BlockWords}
 use Rattle.rio_base.specs.Layout.{HasSuperblock, IsIno, inode_block}
 use Rattle.rio_base.specs.Machine.{Contents}
-use Rattle.rio_base.specs.Shapes.{IsServed, reserved}
-use Rattle.rio_base.specs.NodeKinds.{dir_kind, region_kind}
+use Rattle.rio_base.specs.Shapes.{IsServed}
 use Rattle.rio_model.specs.declared.state.State.{State}
 use Rattle.rio_model.specs.Cover.{stands}
-use Rattle.rio_model.specs.Heap.{IsSoundRegion}
-use Rattle.rio_model.specs.Held.{HasEntry, Held, entry_ino, entry_name, held_of}
-use Rattle.rio_model.specs.Paths.{IsName, walk}
-use Rattle.rio_model.specs.Placed.{HasSlot, Layout, Owns, Slot, volume_layout}
+use Rattle.rio_model.specs.Held.{Held, held_of}
+use Rattle.rio_model.specs.Paths.{walk}
+use Rattle.rio_model.specs.Placed.{Layout, Owns, Slot, volume_layout}
 use Rattle.rio_model.specs.Registry.{IsValid, tag_at, tag_block}
 use Rattle.rio_model.specs.Standing.{EntryFits}
 use Rattle.rio_model.specs.VolumeReads.{Reads, ReadsAs}
-use Rattle.rio_model.specs.VolumeRules.{EntryRule, KindRule, MarkRule, NamesApartRule, NumberRule, OnceRule, ReservedRule, SizeFits, SizeRule, TreeRule}
+use Rattle.rio_model.specs.VolumeRules.{ApartAt, EntryAt, EntryRule, KindAt, KindRule, MarkRule, NamesApartRule, NumberAt, NumberRule, OnceRule, RegionAt, ReservedRule, SizeAt, SizeRule, TreeRule}
 
 -- ---- rule 1: it fails, with block 0, where the superblock says no shape of which this holds
 
@@ -37,26 +35,6 @@ pub record FailsFirst (shape : VolumeShape) (keeps : ℕ → Type 0) (b : ℕ) :
   pub before : (j : ℕ) → IsIno shape j → j < ino → keeps j
   pub block : b ≡ inode_block ino
 
--- rule 3: the kind is known, and inode 1 is a directory
-abbrev pub KindAt : Layout → ℕ → Type 0
-KindAt l i = ((l.node i).kind ≤ region_kind) × (i ≡ 1 → (l.node i).kind ≡ dir_kind)
-
--- rule 4: the size of a used inode is one that its kind may have
-abbrev pub SizeAt : Layout → ℕ → Type 0
-SizeAt l i = 0 < (l.node i).kind → SizeFits (l.node i).kind (l.node i).size
-
--- rule 5: each block number that counts, of a page or of a table, is of a block past the reserved ones
-abbrev pub NumberAt : Layout → ℕ → Type 0
-NumberAt l i = (s : Slot) → HasSlot (l.node i) s → (reserved l.shape ≤ (l.node i).block s) × ((l.node i).block s < l.shape.blocks)
-
--- rule 8: each entry of a directory has a name that a path may have, and the number of a used inode
-abbrev pub EntryAt : (ℕ → Held) → ℕ → Type 0
-EntryAt held d = (j : ℕ) → HasEntry held d j → IsName (entry_name (held d) j) × (0 < (held (entry_ino (held d) j)).kind)
-
--- rule 9: no two entries of a directory have one name
-abbrev pub ApartAt : (ℕ → Held) → ℕ → Type 0
-ApartAt held d = (j k : ℕ) → HasEntry held d j → HasEntry held d k → entry_name (held d) j ≡ entry_name (held d) k → j ≡ k
-
 abbrev pub HasNoName : State → ℕ → Type 0
 HasNoName s i = (d : ℕ) (a : List ℕ) → get s.names (d, a) ≢ Some i
 
@@ -71,10 +49,6 @@ pub record HasOneName (s : State) (i : ℕ) : Type 0 where
 -- rule 10: inode 1 has no name, and each other used inode has exactly one and is reached
 abbrev pub TreeAt : State → ℕ → Type 0
 TreeAt s i = get s.nodes i ≢ None → ((i ≡ 1) × HasNoName s i) ⊎ ((i ≢ 1) × HasOneName s i)
-
--- rule 11: a region's words keep the format
-abbrev pub RegionAt : (ℕ → Held) → ℕ → Type 0
-RegionAt held i = (held i).kind ≡ region_kind → IsSoundRegion ((held i).size / 8) (held i).word
 
 -- ---- what rule 6 asks of one block
 

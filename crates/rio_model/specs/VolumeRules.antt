@@ -33,10 +33,13 @@ pub record ReservedRule (shape : VolumeShape) (f : BlockWords) : Type 0 where
 
 -- ---- inodes and block numbers
 
--- rule 3: each kind is known, and the root is a directory
+-- the kind is known, and inode 1 is a directory
+abbrev pub KindAt : Layout → ℕ → Type 0
+KindAt l i = ((l.node i).kind ≤ region_kind) × (i ≡ 1 → (l.node i).kind ≡ dir_kind)
+
+-- rule 3: of each inode
 pub record KindRule (l : Layout) : Type 0 where
-  pub each : (i : ℕ) → IsIno l.shape i → (l.node i).kind ≤ region_kind
-  pub root : (l.node 1).kind ≡ dir_kind
+  pub each : (i : ℕ) → IsIno l.shape i → KindAt l i
 
 -- a node of this kind may have this size
 pub record SizeFits (kind size : ℕ) : Type 0 where
@@ -45,14 +48,21 @@ pub record SizeFits (kind size : ℕ) : Type 0 where
   pub region : kind ≡ region_kind → size % 4096 ≡ 0
   pub region_pages : kind ≡ region_kind → 16384 ≤ size
 
--- rule 4: each used inode's size is one that its kind may have
-pub record SizeRule (l : Layout) : Type 0 where
-  pub each : (i : ℕ) → IsIno l.shape i → 0 < (l.node i).kind → SizeFits (l.node i).kind (l.node i).size
+-- the size of a used inode is one that its kind may have
+abbrev pub SizeAt : Layout → ℕ → Type 0
+SizeAt l i = 0 < (l.node i).kind → SizeFits (l.node i).kind (l.node i).size
 
--- rule 5: each block number that counts is of a block past the reserved ones
+-- rule 4: of each inode
+pub record SizeRule (l : Layout) : Type 0 where
+  pub each : (i : ℕ) → IsIno l.shape i → SizeAt l i
+
+-- each block number that counts, of a page or of a table, is of a block past the reserved ones
+abbrev pub NumberAt : Layout → ℕ → Type 0
+NumberAt l i = (s : Slot) → HasSlot (l.node i) s → (reserved l.shape ≤ (l.node i).block s) × ((l.node i).block s < l.shape.blocks)
+
+-- rule 5: of each inode
 pub record NumberRule (l : Layout) : Type 0 where
-  pub from : (i : ℕ) (s : Slot) → Owns l i s → reserved l.shape ≤ (l.node i).block s
-  pub to : (i : ℕ) (s : Slot) → Owns l i s → (l.node i).block s < l.shape.blocks
+  pub each : (i : ℕ) → IsIno l.shape i → NumberAt l i
 
 -- rule 6: no block counts twice
 pub record OnceRule (l : Layout) : Type 0 where
@@ -65,14 +75,21 @@ pub record MarkRule (l : Layout) (f : BlockWords) : Type 0 where
 
 -- ---- directories
 
--- rule 8: each entry has a name that a path may have, and the number of a used inode
-pub record EntryRule (held : ℕ → Held) : Type 0 where
-  pub named : (d j : ℕ) → HasEntry held d j → IsName (entry_name (held d) j)
-  pub used : (d j : ℕ) → HasEntry held d j → 0 < (held (entry_ino (held d) j)).kind
+-- each entry of a directory has a name that a path may have, and the number of a used inode
+abbrev pub EntryAt : (ℕ → Held) → ℕ → Type 0
+EntryAt held d = (j : ℕ) → HasEntry held d j → IsName (entry_name (held d) j) × (0 < (held (entry_ino (held d) j)).kind)
 
--- rule 9: no directory has two equal names
+-- rule 8: of each directory
+pub record EntryRule (held : ℕ → Held) : Type 0 where
+  pub each : (d : ℕ) → EntryAt held d
+
+-- no two entries of a directory have one name
+abbrev pub ApartAt : (ℕ → Held) → ℕ → Type 0
+ApartAt held d = (j k : ℕ) → HasEntry held d j → HasEntry held d k → entry_name (held d) j ≡ entry_name (held d) k → j ≡ k
+
+-- rule 9: of each directory
 pub record NamesApartRule (held : ℕ → Held) : Type 0 where
-  pub each : (d j k : ℕ) → HasEntry held d j → HasEntry held d k → entry_name (held d) j ≡ entry_name (held d) k → j ≡ k
+  pub each : (d : ℕ) → ApartAt held d
 
 -- rule 10, by the rows of names that the entries are: the root has no name, each other node has exactly one, and is reached
 -- from the root
@@ -83,9 +100,13 @@ pub record TreeRule (s : State) : Type 0 where
 
 -- ---- regions
 
--- rule 11: each region's words keep the format, and its heap map is of blocks alone once the undo records are put back
+-- a region's words keep the format, and its heap map is of blocks alone once the undo records are put back
+abbrev pub RegionAt : (ℕ → Held) → ℕ → Type 0
+RegionAt held i = (held i).kind ≡ region_kind → IsSoundRegion ((held i).size / 8) (held i).word
+
+-- rule 11: of each region
 pub record RegionRule (held : ℕ → Held) : Type 0 where
-  pub each : (i : ℕ) → (held i).kind ≡ region_kind → IsSoundRegion ((held i).size / 8) (held i).word
+  pub each : (i : ℕ) → RegionAt held i
 
 -- ---- rules together
 

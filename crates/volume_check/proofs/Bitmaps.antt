@@ -145,7 +145,7 @@ free_or (PageOf i p) = inr (λ e. cc)
 free_or (TableOf i t) = inr (λ e. cc)
 
 owned_range : (l : Layout) (b : ℕ) → NumberRule l → Owned l b → (reserved l.shape ≤ b) × (b < l.shape.blocks)
-owned_range l b h own = (subst (λ x. reserved l.shape ≤ x) own.is (h.from own.node own.slot own.owns), subst (λ x. x < l.shape.blocks) own.is (h.to own.node own.slot own.owns))
+owned_range l b h own = (subst (λ x. reserved l.shape ≤ x) own.is (h.each own.node own.owns.ino own.slot own.owns.slot).0, subst (λ x. x < l.shape.blocks) own.is (h.each own.node own.owns.ino own.slot own.owns.slot).1)
 
 pub keeps_marks : (f : BlockWords) (shape : VolumeShape) (m : Bitmap) (owners : List Owner) (r : ℕ) → IsServed shape → HasBitmap shape f m → r ≡ reserved shape → NumberRule (volume_layout shape f) → HasOwners (volume_layout shape f) owners → MarksOwners m owners r shape.blocks → MarkRule (volume_layout shape f) f
 keeps_marks f shape m owners r served h is numbers own marks = record {

@@ -108,12 +108,12 @@ has_read s shape m n is says bits inodes low = record {
 pub can_number : (s t : Seen) (n : Inodes) (i : ℕ) → Looks s t → HasInodes s n → SizeRule (layout_of s n) → NumberRule (layout_of s n) → IsIno n.shape i → CanNumber ((layout_of t n).node i) t.count
 can_number s t n i l h sizes numbers ino = subst (λ (f : BlockWords). CanNumber (placed_at f i) t.count) (sym l.words) (record {
   size = λ used. (sizes.each i ino used).most;
-  tables = λ k has. subst (λ c. (placed_at s.words i).block (AtTable k) < c) (sym (l.count ∙ h.count)) (numbers.to i (AtTable k) (record { ino = ino; slot = has }));
+  tables = λ k has. subst (λ c. (placed_at s.words i).block (AtTable k) < c) (sym (l.count ∙ h.count)) (numbers.each i ino (AtTable k) has).1;
 })
 
 -- each number of it is then of a block past the reserved ones
 pub number_range : (s : Seen) (n : Inodes) (i at : ℕ) → NumberRule (layout_of s n) → IsIno n.shape i → at < length (node_numbers ((layout_of s n).node i)) → InRange n.shape (slice_index (node_numbers ((layout_of s n).node i)) at)
-number_range s n i at numbers ino within = each_number ((layout_of s n).node i) (InRange n.shape) (λ x has. (numbers.from i x (record { ino = ino; slot = has }), numbers.to i x (record { ino = ino; slot = has }))) at within
+number_range s n i at numbers ino within = each_number ((layout_of s n).node i) (InRange n.shape) (λ x has. ((numbers.each i ino x has).0, (numbers.each i ino x has).1)) at within
 
 -- a page of a node, by the list of its blocks
 pub front_within : (s : Seen) (n : Inodes) (i page count : ℕ) (bs : List Block) → HasInodes s n → IsIno n.shape i → 0 < said n i 0 → count ≤ pages (said n i 1) → page < count → numbers bs ≡ node_numbers ((layout_of s n).node i) → page < length bs

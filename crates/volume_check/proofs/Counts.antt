@@ -86,7 +86,7 @@ nodes_counted test k s n t h reads by_kind =
     point : (i : ℕ) → IsIno n.shape i → (said n i 0 == k) ≡ test (get t.nodes i)
     point i ino =
         let same = kind_held n.shape s.words i ino in
-        let few = reads.mapped.laid.kinds.each i ino in
+        let few = (reads.mapped.laid.kinds.each i ino).0 in
         ap (λ x. x == k) (kind_said s n i h ino ∙ sym same) ∙ sym (ap test (reads.reads.nodes i) ∙ by_kind (held_of n.shape s.words i) (omega (arith, same, few)))
 
 pub dirs_counted : (s : Seen) (n : Inodes) (t : State) → HasInodes s n → ReadsAs n.shape s.words t → counted (λ i. said n i 0 == 1) n.shape.inodes ≡ node_count is_dir t

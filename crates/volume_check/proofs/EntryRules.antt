@@ -5,8 +5,7 @@ use Rattle.rio_base.specs.Blocks.{Seen}
 use Rattle.rio_model.specs.Held.{HasEntry, Held, entry_ino, held, held_of, nothing}
 use Rattle.rio_model.specs.Paths.{IsName}
 use Rattle.rio_model.specs.Placed.{placed_at}
-use Rattle.rio_model.specs.VolumeFails.{EntryAt}
-use Rattle.rio_model.specs.VolumeRules.{EntryRule}
+use Rattle.rio_model.specs.VolumeRules.{EntryRule, EntryAt}
 use Rattle.rio_model.proofs.ReadStates.{HoldsWithin}
 use Rattle.rio_model.proofs.VolumeFailRules.{ino_held}
 use Rattle.volume_check.specs.Entries.{HasEntries, KeepsEntry, ino_in, kind_in, name_in}
@@ -88,7 +87,7 @@ entry_read shape held d j i words outside rule dir has within is =
     record {
       entry = entry;
       ino = ino;
-      is_ino = ino_held shape held i outside (subst (λ x. 0 < (held x).kind) ino (rule.used d j entry));
+      is_ino = ino_held shape held i outside (subst (λ x. 0 < (held x).kind) ino (rule.each d j entry).1);
     }
 
 -- all entries are among those that its words have

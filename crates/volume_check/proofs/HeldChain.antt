@@ -3,9 +3,9 @@ use Rattle.rio_model.proofs.Common.{ℕ, inl, inr, BlockWords, VolumeShape}
 use Rattle.std.specs.Prelude.{Err, Ok, OnOk, Result}
 use Rattle.rio_model.specs.declared.state.State.{State}
 use Rattle.rio_model.specs.Held.{Held, held_of}
-use Rattle.rio_model.specs.VolumeFails.{ApartAt, EntryAt, FailsHeld, RegionAt, TreeAt}
+use Rattle.rio_model.specs.VolumeFails.{FailsHeld, TreeAt}
 use Rattle.rio_model.specs.VolumeReads.{ReadsAs}
-use Rattle.rio_model.specs.VolumeRules.{EntryRule, IsMapped, NamesApartRule, RegionRule, TreeRule}
+use Rattle.rio_model.specs.VolumeRules.{EntryRule, IsMapped, NamesApartRule, RegionRule, TreeRule, ApartAt, EntryAt, RegionAt}
 use Rattle.rio_model.proofs.ReadStates.{HoldsWithin, reads_as_made, reads_made}
 use Rattle.volume_check.specs.Rules.{FailsBy}
 use Rattle.volume_check.specs.Tree.{state_of}

@@ -1,8 +1,7 @@
 -- Rules 3 and 4 of an inode as it is held.
 use Rattle.volume_check.proofs.Common.{arith, inl, inr, refl, subst, sym, ℕ, ◌+◌, ◌-◌, ◌<◌, ◌∙◌, ◌≡◌, ◌≤◌, None, Option, Some, IsIno, Ino, Seen, VolumeShape, inode_block}
-use Rattle.rio_model.specs.VolumeFails.{FailsFirst, KindAt, SizeAt}
-use Rattle.rio_model.specs.VolumeRules.{KindRule, SizeFits, SizeRule}
-use Rattle.rio_model.proofs.VolumeFailRules.{kind_rule, size_rule}
+use Rattle.rio_model.specs.VolumeFails.{FailsFirst}
+use Rattle.rio_model.specs.VolumeRules.{KindRule, SizeFits, SizeRule, KindAt, SizeAt}
 use Rattle.volume_check.specs.declared.failures.CheckFail.{CheckFail}
 use Rattle.volume_check.specs.declared.failures.CheckFail.TheVariants.{BadVolume}
 use Rattle.volume_check.specs.Looking.{Refuses}
@@ -61,10 +60,10 @@ finds_as shape keeps holds None on back h = λ i ino. on i ino (h i ino)
 finds_as shape keeps holds (Some i) on back h = (h.0, λ k. h.1 (back i.0 h.0 k), λ j ino less. on j ino (h.2 j ino less))
 
 pub kinds_keep : (s : Seen) (n : Inodes) → HasInodes s n → Finds n.shape (KeepsKind n) None → KindRule (layout_of s n)
-kinds_keep s n h all = kind_rule (layout_of s n) h.served.sizes (finds_as n.shape (KeepsKind n) (KindAt (layout_of s n)) None (kind_from s n h) (kind_to s n h) all)
+kinds_keep s n h all = record { each = finds_as n.shape (KeepsKind n) (KindAt (layout_of s n)) None (kind_from s n h) (kind_to s n h) all }
 
 pub sizes_keep : (s : Seen) (n : Inodes) → HasInodes s n → Finds n.shape (KeepsSize n) None → SizeRule (layout_of s n)
-sizes_keep s n h all = size_rule (layout_of s n) (finds_as n.shape (KeepsSize n) (SizeAt (layout_of s n)) None (size_from s n h) (size_to s n h) all)
+sizes_keep s n h all = record { each = finds_as n.shape (KeepsSize n) (SizeAt (layout_of s n)) None (size_from s n h) (size_to s n h) all }
 
 pub kind_breaks : (s : Seen) (n : Inodes) (i : Ino) (fail : CheckFail) → HasInodes s n → Finds n.shape (KeepsKind n) (Some i) → fail ≡ BadVolume 3 (record { 0 = inode_block i.0 }) → Refuses (FailsInodes (layout_of s n)) fail
 kind_breaks s n i fail h first is = subst (λ (x : CheckFail). Refuses (FailsInodes (layout_of s n)) x) (sym is) (inl (refl, first_of n.shape (KindAt (layout_of s n)) i (inode_block i.0) refl (finds_as n.shape (KeepsKind n) (KindAt (layout_of s n)) (Some i) (kind_from s n h) (kind_to s n h) first)))

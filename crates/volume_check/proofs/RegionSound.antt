@@ -5,8 +5,8 @@ use Rattle.std.proofs.lemmas.List.{get_or-drop, get_or-take, length-take-le}
 use Rattle.rio_base.specs.Regions.{RegionContent}
 use Rattle.rio_model.specs.Heap.{IsSoundRegion, OfBlocks}
 use Rattle.rio_model.specs.Held.{Held}
-use Rattle.rio_model.specs.VolumeFails.{RegionAt}
 use Rattle.rio_model.specs.Undo.{IsRegion, UndoRecord, Within, before, before_by, map_pages, region_words, saved_word, taken, undo_records, word_or}
+use Rattle.rio_model.specs.VolumeRules.{RegionAt}
 use Rattle.volume_check.specs.RegionWords.{Begins, HasPages, HasRecords}
 use Rattle.volume_check.proofs.HeapUnits.{of_blocks_on}
 use Rattle.volume_check.proofs.RecordWalks.{records_on}

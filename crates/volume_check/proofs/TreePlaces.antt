@@ -159,7 +159,7 @@ tree_all s n has mapped entries apart each =
     let held = held_of n.shape s.words in
     let outside = holds_within n.shape s.words in
     let root : IsIno n.shape 1 = root_ino n.shape has.served.sizes in
-    tree_rule n.shape held (state_of n.shape held) outside entries (reads_made n.shape 0 0 held outside apart) (ap (λ (h : Held). h.kind) (held_ino (volume_layout n.shape s.words) s.words 1 root) ∙ mapped.laid.kinds.root) each
+    tree_rule n.shape held (state_of n.shape held) outside entries (reads_made n.shape 0 0 held outside apart) (ap (λ (h : Held). h.kind) (held_ino (volume_layout n.shape s.words) s.words 1 root) ∙ (mapped.laid.kinds.each 1 root).1 refl) each
 
 pub tree_fails : (s : Seen) (n : Inodes) (counts : List NameCount) (reached : List Bool) (i : ℕ) → HasInodes s n → NamesApartRule (held_of n.shape s.words) → Placed n.shape (held_of n.shape s.words) counts reached → IsIno n.shape i → ¬ InPlace n counts reached i → ((j : ℕ) → IsIno n.shape j → j < i → InPlace n counts reached j) → FailsBy 10 n.shape (TreeAt (state_of n.shape (held_of n.shape s.words))) 10 (inode_block i)
 tree_fails s n counts reached i has apart p ino fails before = (

@@ -4,8 +4,7 @@ use Rattle.rio_base.specs.Blocks.{BlockWords}
 use Rattle.rio_base.specs.declared.places.VolumeShape.{VolumeShape}
 use Rattle.rio_model.specs.Held.{held_of}
 use Rattle.rio_model.specs.Placed.{volume_layout}
-use Rattle.rio_model.specs.VolumeFails.{ApartAt, EntryAt, NumberAt, RegionAt}
-use Rattle.rio_model.specs.VolumeRules.{EntryRule, IsMapped, SizeRule}
+use Rattle.rio_model.specs.VolumeRules.{EntryRule, IsMapped, SizeRule, ApartAt, EntryAt, NumberAt, RegionAt}
 use Rattle.volume_check.specs.declared.node_rules.NodeRule.{NodeRule}
 use Rattle.volume_check.specs.declared.node_rules.NodeRule.TheVariants.{Entries, Format, Names, Numbers}
 

@@ -2,9 +2,9 @@
 use Rattle.std.specs.Prelude.{◌≡◌, ℕ, ◌⊎◌}
 use Rattle.rio_base.specs.declared.places.VolumeShape.{VolumeShape}
 use Rattle.rio_base.specs.Blocks.{BlockWords}
-use Rattle.rio_model.specs.VolumeFails.{FailsFirst, IsLeastTwice, KindAt, NumberAt, SaysShape, SizeAt}
+use Rattle.rio_model.specs.VolumeFails.{FailsFirst, IsLeastTwice, SaysShape}
 use Rattle.rio_model.specs.Placed.{Layout}
-use Rattle.rio_model.specs.VolumeRules.{KindRule, MarkRule, ReservedRule}
+use Rattle.rio_model.specs.VolumeRules.{KindRule, MarkRule, ReservedRule, KindAt, NumberAt, SizeAt}
 
 -- ---- a rule on inodes that fails
 

@@ -6,7 +6,7 @@ ghost use Rattle.rio_base.specs.Layout.{IsIno, half};
 ghost use Rattle.rio_base.specs.Shapes.{IsServed};
 ghost use Rattle.rio_model.specs.Placed.{AtPage, AtTable, HasSlot, Placed};
 ghost use Rattle.rio_model.specs.Sizes.{largest_size, pages};
-ghost use Rattle.rio_model.specs.VolumeFails.{NumberAt, SizeAt};
+ghost use Rattle.rio_model.specs.VolumeRules.{NumberAt, SizeAt};
 ghost use Rattle.volume_check.specs.Looking.{CanLook, Looked, Refuses};
 ghost use Rattle.volume_check.specs.Inodes.{HasInodes, layout_of, said};
 ghost use Rattle.volume_check.specs.NodeBlocks.{CanNumber, InRange, node_numbers, numbers, page_numbers};

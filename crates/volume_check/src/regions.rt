@@ -3,8 +3,7 @@
 ghost use Rattle.std.specs.Prelude.{◌≡◌, ◌↔◌, IfErr, IfOk, IsTrue};
 ghost use Rattle.rio_base.specs.Layout.{IsIno};
 ghost use Rattle.rio_model.specs.Held.{held_of};
-ghost use Rattle.rio_model.specs.VolumeFails.{RegionAt};
-ghost use Rattle.rio_model.specs.VolumeRules.{IsMapped};
+ghost use Rattle.rio_model.specs.VolumeRules.{IsMapped, RegionAt};
 ghost use Rattle.volume_check.specs.Looking.{CanLook, Looked, Refuses};
 ghost use Rattle.volume_check.specs.Inodes.{HasInodes};
 

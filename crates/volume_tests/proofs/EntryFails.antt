@@ -7,9 +7,9 @@ use Rattle.std.proofs.lemmas.List.FromFn.{length-map-range_with_len}
 use Rattle.rio_base.specs.Layout.{half, inode_block, inode_place}
 use Rattle.rio_model.specs.Held.{HasEntry, byte_in, byte_of, entry_ino, entry_length, entry_name, held_bytes, held_of}
 use Rattle.rio_model.specs.Paths.{IsName, IsNameByte}
-use Rattle.rio_model.specs.VolumeFails.{ApartAt, EntryAt, FailsFirst, FailsHeld, TreeAt}
+use Rattle.rio_model.specs.VolumeFails.{FailsFirst, FailsHeld, TreeAt}
 use Rattle.rio_model.specs.VolumeReads.{Reads}
-use Rattle.rio_model.specs.VolumeRules.{EntryRule, NamesApartRule}
+use Rattle.rio_model.specs.VolumeRules.{EntryRule, NamesApartRule, ApartAt, EntryAt}
 use Rattle.rio_model.proofs.FreshPair.{FailsOnly}
 use Rattle.rio_model.proofs.VolumeReadRules.{reads_dir, reads_file}
 use Rattle.rio_model.proofs.WordRules.{put_beside, put_other}

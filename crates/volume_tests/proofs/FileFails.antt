@@ -5,8 +5,8 @@ use Rattle.rio_base.specs.Bitmap.{bitmap_block}
 use Rattle.rio_base.specs.Layout.{HasSuperblock, IsIno, half, inode_block, inode_kind, inode_place, inode_size, volume_magic}
 use Rattle.rio_model.specs.Placed.{AtPage, AtTable, HasSlot, Within, IsFree, Owns, Slot, number_at}
 use Rattle.rio_model.specs.Sizes.{largest_size}
-use Rattle.rio_model.specs.VolumeFails.{FailsFirst, FailsOn, FailsVolume, IsLeastTwice, KindAt, NumberAt, SizeAt}
-use Rattle.rio_model.specs.VolumeRules.{KindRule, MarkRule, NumberRule, ReservedRule, SizeFits, SizeRule, bitmap_bits}
+use Rattle.rio_model.specs.VolumeFails.{FailsFirst, FailsOn, FailsVolume, IsLeastTwice}
+use Rattle.rio_model.specs.VolumeRules.{KindRule, MarkRule, NumberRule, ReservedRule, SizeFits, SizeRule, bitmap_bits, KindAt, NumberAt, SizeAt}
 use Rattle.rio_model.proofs.FreshPair.{FailsOnly, other_magic_fails}
 use Rattle.rio_model.proofs.PlacedRules.{page_page, reserved_same}
 use Rattle.rio_model.proofs.VolumeFailRules.{none_fails, one_fails}
@@ -93,7 +93,7 @@ reserved_put f w v rule = reserved_same file_shape f (put f 2 w v) file_served.s
 
 -- and where it is no kind, or no size, these rules stay
 kinds_put : (f : BlockWords) (w v : ℕ) → ((i : ℕ) → 16 * i + 0 ≢ w) → KindRule (file_layout f) → KindRule (file_layout (put f 2 w v))
-kinds_put f w v off rule = record { each = λ i ino. subst (λ k. k ≤ 3) (sym (kind i)) (rule.each i ino); root = kind 1 ∙ rule.root }
+kinds_put f w v off rule = record { each = λ i ino. (subst (λ k. k ≤ 3) (sym (kind i)) (rule.each i ino).0, λ e. kind i ∙ (rule.each i ino).1 e) }
   where
     kind : (i : ℕ) → inode_kind (put f 2 w v) i ≡ inode_kind f i
     kind i = put_beside f 2 w v _ _ (off ((i - 1) % 32))
@@ -263,7 +263,7 @@ table_number_out f v h out = only_on g 5 2 (words_put long 30 v (words_put f 17 
 
 -- where both pages of the file lie past the reserved blocks all keep rule 5
 numbers_rule : (f : BlockWords) (v : ℕ) → HasFile f → (3 ≤ v % 2 ^ 32) × (v % 2 ^ 32 < 16) → (3 ≤ v / 2 ^ 32 % 2 ^ 32) × (v / 2 ^ 32 % 2 ^ 32 < 16) → NumberRule (file_layout (put f 2 18 v))
-numbers_rule f v h first second = record { from = λ i s own. from _ (numbers_is f v i _ s h own refl); to = λ i s own. to _ (numbers_is f v i _ s h own refl) }
+numbers_rule f v h first second = record { each = λ i ino s has. let own : Owns (file_layout (put f 2 18 v)) i s = record { ino = ino; slot = has } in (from _ (numbers_is f v i _ s h own refl), to _ (numbers_is f v i _ s h own refl)) }
   where
     from : {i : ℕ} {s : Slot} (b : ℕ) → NumberOf v i s b → reserved file_shape ≤ b
     from b (inl (e, d, is)) = omega (arith, is, reserved_is)

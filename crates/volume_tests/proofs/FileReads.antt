@@ -87,8 +87,7 @@ entry_to f d j h has = let at = entry_only f d j h has in ap (λ x. entry_ino (h
 
 file_entries : (f : BlockWords) → HasFile f → EntryRule (held_of file_shape f)
 file_entries f h = record {
-  named = λ d j has. subst IsName (sym (entry_named f d j h has)) (letter_is_name 102 (omega arith) (omega arith));
-  used = λ d j has. subst (λ i. 0 < (held_of file_shape f i).kind) (sym (entry_to f d j h has)) (subst (λ k. 0 < k) (sym h.kind) (omega arith));
+  each = λ d j has. (subst IsName (sym (entry_named f d j h has)) (letter_is_name 102 (omega arith) (omega arith)), subst (λ i. 0 < (held_of file_shape f i).kind) (sym (entry_to f d j h has)) (subst (λ k. 0 < k) (sym h.kind) (omega arith)));
 }
 
 file_regions : (f : BlockWords) → HasFile f → RegionRule (held_of file_shape f)

@@ -6,12 +6,12 @@ use Rattle.rio_base.specs.Layout.{HasSuperblock, inode_kind, inode_place}
 use Rattle.rio_base.specs.Shapes.{IsServed, more_bitmap}
 use Rattle.rio_model.specs.Fresh.{IsFreshVolume}
 use Rattle.rio_model.specs.Placed.{volume_layout}
-use Rattle.rio_model.specs.VolumeFails.{FailsVolume, KindAt}
-use Rattle.rio_model.specs.VolumeRules.{IsMapped, bitmap_bits}
+use Rattle.rio_model.specs.VolumeFails.{FailsVolume}
+use Rattle.rio_model.specs.VolumeRules.{IsMapped, bitmap_bits, KindAt}
 use Rattle.rio_model.proofs.FreshPair.{FailsOnly}
 use Rattle.rio_model.proofs.FreshReads.{fresh_reads}
 use Rattle.rio_model.proofs.PlacedRules.{cases_lt, reserved_same}
-use Rattle.rio_model.proofs.VolumeFailRules.{kind_each, one_fails}
+use Rattle.rio_model.proofs.VolumeFailRules.{one_fails}
 use Rattle.rio_model.proofs.WordRules.{put_beside, put_here, put_other}
 
 -- the kind of inode i is another
@@ -63,7 +63,7 @@ kind_fails shape f g i served h top ino unknown same = (fails, λ q c other. one
     mapped = (fresh_reads shape f 0 0 h).mapped
 
     kept : (j : ℕ) → IsIno shape j → j < i → KindAt (volume_layout shape g) j
-    kept j at less = let before = kind_each (volume_layout shape f) mapped.laid.kinds j at in let is = same j at.from less in (subst (λ k. k ≤ 3) (sym is) before.0, λ e. is ∙ before.1 e)
+    kept j at less = let before = mapped.laid.kinds.each j at in let is = same j at.from less in (subst (λ k. k ≤ 3) (sym is) before.0, λ e. is ∙ before.1 e)
 
     fails : FailsVolume g shape.blocks 3 (inode_block i)
     fails = inr (

@@ -91,11 +91,10 @@ size_fits f i (inr free) used = absurd (omega (arith, free, used))
 laid : (f : BlockWords) → HasLoop f → IsLaid (file_layout f)
 laid f h = record {
   shape_fits = file_served.sizes;
-  kinds = record { each = λ i ino. kind_most f i (sort f i h ino); root = h.root_kind };
+  kinds = record { each = λ i ino. (kind_most f i (sort f i h ino), λ e. subst (λ x. inode_kind f x ≡ 1) (sym e) h.root_kind) };
   sizes = record { each = λ i ino used. size_fits f i (sort f i h ino) used };
   numbers = record {
-    from = λ i s own. let is = three f i s h own in omega (arith, is, reserved_is);
-    to = λ i s own. let is = three f i s h own in omega (arith, is);
+    each = λ i ino s has. let is = three f i s h (record { ino = ino; slot = has }) in (omega (arith, is, reserved_is), omega (arith, is));
   };
   once = record { each = λ i j s t a b e. let x = slot f i s h a in let y = slot f j t h b in (x.0 ∙ sym y.0, x.1 ∙ sym y.1) };
 }
@@ -148,8 +147,7 @@ named f d j h has = let at = entry f d j h has in subst (λ x. EntryIs (held_of 
 
 entries : (f : BlockWords) → HasLoop f → EntryRule (held_of file_shape f)
 entries f h = record {
-  named = λ d j has. subst IsName (sym (named f d j h has).named) (letter_is_name 102 (omega arith) (omega arith));
-  used = λ d j has. subst (λ i. 0 < (held_of file_shape f i).kind) (sym (named f d j h has).ino) (subst (λ k. 0 < k) (sym h.kind) (omega arith));
+  each = λ d j has. (subst IsName (sym (named f d j h has).named) (letter_is_name 102 (omega arith) (omega arith)), subst (λ i. 0 < (held_of file_shape f i).kind) (sym (named f d j h has).ino) (subst (λ k. 0 < k) (sym h.kind) (omega arith)));
 }
 
 apart : (f : BlockWords) → HasLoop f → NamesApartRule (held_of file_shape f)

@@ -6,9 +6,9 @@ use Rattle.rio_base.specs.Layout.{inode_kind, inode_size}
 use Rattle.rio_model.specs.Heap.{IsSoundRegion, OfBlocks, starts, used}
 use Rattle.rio_model.specs.Held.{byte_of, entry_ino, held_of}
 use Rattle.rio_model.specs.Undo.{IsRegion, Links, Within, before, before_by, live, places, record_at, records_from, region_magic, region_words, taken, undo_records, undo_word, undo_words}
-use Rattle.rio_model.specs.VolumeFails.{FailsVolume, RegionAt, TreeAt}
+use Rattle.rio_model.specs.VolumeFails.{FailsVolume, TreeAt}
 use Rattle.rio_model.specs.VolumeReads.{Reads}
-use Rattle.rio_model.specs.VolumeRules.{EntryRule, NamesApartRule, RegionRule, TreeRule}
+use Rattle.rio_model.specs.VolumeRules.{EntryRule, NamesApartRule, RegionRule, TreeRule, RegionAt}
 use Rattle.rio_model.proofs.FreshPair.{FailsOnly}
 use Rattle.rio_model.proofs.ReadStates.{holds_within, reads_as_made}
 use Rattle.rio_model.proofs.UndoRules.{records_are}

@@ -144,8 +144,7 @@ letter_is_name c low high = record {
 -- rule 8, by the entries of the root
 pub rows_kept : (f : BlockWords) (root k z : ℕ) → HasTwo f root k z → Fits root k z → ((j : ℕ) → 64 * j < root → IsName (entry_name (held_of file_shape f 1) j) × (0 < (held_of file_shape f (entry_ino (held_of file_shape f 1) j)).kind)) → EntryRule (held_of file_shape f)
 rows_kept f root k z h fits each = record {
-  named = λ d j has. let at = in_root f root k z d j h fits has in subst (λ x. IsName (entry_name (held_of file_shape f x) j)) (sym at.0) (each j at.1).0;
-  used = λ d j has. let at = in_root f root k z d j h fits has in subst (λ x. 0 < (held_of file_shape f (entry_ino (held_of file_shape f x) j)).kind) (sym at.0) (each j at.1).1;
+  each = λ d j has. ((let at = in_root f root k z d j h fits has in subst (λ x. IsName (entry_name (held_of file_shape f x) j)) (sym at.0) (each j at.1).0), (let at = in_root f root k z d j h fits has in subst (λ x. 0 < (held_of file_shape f (entry_ino (held_of file_shape f x) j)).kind) (sym at.0) (each j at.1).1));
 }
 
 -- what an entry of inode 2 owes

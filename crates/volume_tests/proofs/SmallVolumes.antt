@@ -166,11 +166,10 @@ owned_at f i s own = record { node = i; slot = s; owns = own; is = refl }
 pub small_laid : (f : BlockWords) (root k z : ℕ) → HasTwo f root k z → InOrder f z → Fits root k z → IsLaid (file_layout f)
 small_laid f root k z h o fits = record {
   shape_fits = file_served.sizes;
-  kinds = record { each = λ i ino. kind_most f root k z i fits (sort f root k z i h ino); root = h.root_kind };
+  kinds = record { each = λ i ino. (kind_most f root k z i fits (sort f root k z i h ino), λ e. subst (λ x. inode_kind f x ≡ 1) (sym e) h.root_kind) };
   sizes = record { each = λ i ino used. size_fits f root k z i fits (sort f root k z i h ino) used };
   numbers = record {
-    from = λ i s own. let low = (small_owned f root k z _ h o fits (owned_at f i s own)).0 in omega (arith, low, reserved_is);
-    to = λ i s own. let high = (small_owned f root k z _ h o fits (owned_at f i s own)).1 in below _ high;
+    each = λ i ino s has. let at = small_owned f root k z _ h o fits (owned_at f i s (record { ino = ino; slot = has })) in let low = at.0 in let high = at.1 in (omega (arith, low, reserved_is), below _ high);
   };
   once = record { each = λ i j s t a b e. apart i j s t (two_slots f root k z i s h fits.one_page fits.room a) (two_slots f root k z j t h fits.one_page fits.room b) e };
 }

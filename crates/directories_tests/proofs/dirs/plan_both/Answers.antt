@@ -25,7 +25,7 @@ returns-clause-can c =
     let gone = c.args.gone in
     let i = c.args.i.0 in
     let kind = c.requires.dirs.dirs d c.requires.dir in
-    let named = c.requires.dirs.entries.named d slot (record { dir = kind; within = c.requires.slot }) in
+    let named = (c.requires.dirs.entries.each d slot (record { dir = kind; within = c.requires.slot })).0 in
     if_ok_map (PlansDir shape x.words y j d (ReplacesRow slot i gone)) (CanMake shape y j) c.plan_replace.result
     (λ change p. can_make shape x k y j d (ReplacesRow slot i gone) change c.requires.dirs c.requires.dir (dir_ino shape x.words d kind) c.plan_replace.ensures.leaves (λ h row. replace_keeps (held_of shape x.words d) h slot i gone named c.requires.ino row) p) c.plan_replace.ensures.ok
 

@@ -91,7 +91,7 @@ pub returns-in-Err-Stopped-clause-ends : goal.returns-in-Err-Stopped-clause-ends
 returns-in-Err-Stopped-clause-ends g c = ends_later _ _ _ _ c.word.ensures.ends.later c.in_ok-word.ensures.ends.cause (run_told _ _ _ _ c.in-Err-Stopped.field-0-is c.in-Err-Stopped.ensures.ends)
 
 pub word-requires-clause-place : goal.word-requires-clause-place
-word-requires-clause-place g c = let count = c.requires.ready.order.has_shape.count in let at = c.requires.block in let to = c.requires.ready.order.mapped.laid.numbers.to c.args.i.0 (AtPage c.args.page) c.requires.owns in record { block = omega (arith, count, at, to); word = omega (arith, c.requires.place) }
+word-requires-clause-place g c = let count = c.requires.ready.order.has_shape.count in let at = c.requires.block in let to = (c.requires.ready.order.mapped.laid.numbers.each c.args.i.0 c.requires.owns.ino (AtPage c.args.page) c.requires.owns.slot).1 in record { block = omega (arith, count, at, to); word = omega (arith, c.requires.place) }
 
 pub word-requires-clause-name : goal.word-requires-clause-name
 word-requires-clause-name g c = page_can c.args.shape.now _ _ c.args.i.0 c.args.page c.args.b.0 _ c.requires.ready c.requires.owns c.requires.block c.requires.file refl refl (omega (arith, c.bytes_in_page-size.ensures.size))

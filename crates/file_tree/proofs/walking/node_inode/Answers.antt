@@ -33,4 +33,4 @@ pub read_inode-requires-clause-ino : goal.read_inode-requires-clause-ino
 read_inode-requires-clause-ino g c = used_ino _ (g.V.Blocks.seen c.args.v.now).words _ c.requires.used
 
 pub read_inode-requires-clause-kind : goal.read_inode-requires-clause-kind
-read_inode-requires-clause-kind g c = c.requires.reads.1.mapped.laid.kinds.each _ (used_ino _ (g.V.Blocks.seen c.args.v.now).words _ c.requires.used)
+read_inode-requires-clause-kind g c = (c.requires.reads.1.mapped.laid.kinds.each _ (used_ino _ (g.V.Blocks.seen c.args.v.now).words _ c.requires.used)).0

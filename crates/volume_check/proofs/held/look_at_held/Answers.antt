@@ -1,7 +1,7 @@
 use Rattle.volume_check.proofs.Common.{err_from_is_err_and, BlockWords, Ok}
 use Rattle.rio_model.specs.Held.{held_of}
-use Rattle.rio_model.specs.VolumeFails.{ApartAt, EntryAt, FailsHeld, RegionAt, TreeAt}
-use Rattle.rio_model.specs.VolumeRules.{EntryRule, IsMapped, NamesApartRule, RegionRule, TreeRule}
+use Rattle.rio_model.specs.VolumeFails.{FailsHeld, TreeAt}
+use Rattle.rio_model.specs.VolumeRules.{EntryRule, IsMapped, NamesApartRule, RegionRule, TreeRule, ApartAt, EntryAt, RegionAt}
 use Rattle.rio_model.proofs.ReadStates.{holds_within}
 use Rattle.rio_model.proofs.VolumeFailRules.{apart_rule, entry_rule, region_rule}
 use Rattle.volume_check.specs.Rules.{FailsBy}

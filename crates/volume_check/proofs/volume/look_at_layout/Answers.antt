@@ -3,7 +3,6 @@ use Rattle.rio_model.specs.declared.census.Owner.{Owner}
 use Rattle.rio_model.specs.Censuses.{HasOwners}
 use Rattle.rio_model.specs.VolumeFails.{FailsVolume}
 use Rattle.rio_model.specs.VolumeRules.{NumberRule, OnceRule, SizeRule}
-use Rattle.rio_model.proofs.VolumeFailRules.{number_rule}
 use Rattle.volume_check.specs.Inodes.{layout_of}
 use Rattle.volume_check.specs.Rules.{FailsInodes, FailsNumbers, FailsOnce}
 use Rattle.volume_check.proofs.Chains.{fails_inodes, fails_marks, fails_numbers, fails_once, inodes_on, is_mapped, layout_back, layout_on}
@@ -49,7 +48,7 @@ pub find_owners-requires-clause-sizes : goal.find_owners-requires-clause-sizes
 find_owners-requires-clause-sizes g c = layout_on (g.V.Blocks.seen c.args.v.now) _ c.args.inodes.now SizeRule c.in_ok-look_at_each.ensures.looked.looks (c.in_ok-look_at_inodes.ensures.sizes (g.V.Blocks.seen c.args.v.now) c.requires.read.inodes)
 
 pub find_owners-requires-clause-numbers : goal.find_owners-requires-clause-numbers
-find_owners-requires-clause-numbers g c = layout_on (g.V.Blocks.seen c.args.v.now) _ c.args.inodes.now NumberRule c.in_ok-look_at_each.ensures.looked.looks (number_rule (layout_of (g.V.Blocks.seen c.args.v.now) c.args.inodes.now) c.in_ok-look_at_each.ensures.ok)
+find_owners-requires-clause-numbers g c = layout_on (g.V.Blocks.seen c.args.v.now) _ c.args.inodes.now NumberRule c.in_ok-look_at_each.ensures.looked.looks (record { each = c.in_ok-look_at_each.ensures.ok })
 
 pub returns-in_err-owners-clause-refused : goal.returns-in_err-owners-clause-refused
 returns-in_err-owners-clause-refused g c =
@@ -59,7 +58,7 @@ returns-in_err-owners-clause-refused g c =
     let looks = c.in_ok-look_at_each.ensures.looked.looks in
     let p = err_from_is_err_and c.from_residual-in_err-owners.result c.from_residual-in_err-owners.ensures.1 in
     refused_err (FailsOnce (layout_of (g.V.Blocks.seen c.look_at_each.new.v) n)) (FailsVolume s.words s.count) c.find_owners.result c.from_residual-in_err-owners.result _ p.0 c.in_err-owners.was p.1 p.2
-    (λ rule b h. fails_once s.words s.count n.shape read.says read.reserved_marked (c.in_ok-look_at_inodes.ensures.kinds s read.inodes) (c.in_ok-look_at_inodes.ensures.sizes s read.inodes) (number_rule (layout_of (g.V.Blocks.seen c.args.v.now) c.args.inodes.now) c.in_ok-look_at_each.ensures.ok) rule b (layout_back s _ n (λ (l : Layout). FailsOnce l rule b) looks h)) c.find_owners.ensures.refused
+    (λ rule b h. fails_once s.words s.count n.shape read.says read.reserved_marked (c.in_ok-look_at_inodes.ensures.kinds s read.inodes) (c.in_ok-look_at_inodes.ensures.sizes s read.inodes) (record { each = c.in_ok-look_at_each.ensures.ok }) rule b (layout_back s _ n (λ (l : Layout). FailsOnce l rule b) looks h)) c.find_owners.ensures.refused
 
 pub returns-in_err-owners-clause-looked : goal.returns-in_err-owners-clause-looked
 returns-in_err-owners-clause-looked g c =
@@ -81,7 +80,7 @@ returns-in_err-demand-clause-refused g c =
     let own = layout_back s _ n (λ (l : Layout). HasOwners l c.in_ok-owners.owners.items) looks c.in_ok-owners.ensures.owners in
     let p = err_from_is_err_and c.from_residual-in_err-demand.result c.from_residual-in_err-demand.ensures.1 in
     refused_told (FailsVolume s.words s.count) c.from_residual-in_err-demand.result p.0 _ 7 _ p.1 p.2 c.in_err-demand.ensures.1
-    (fails_marks s.words s.count n.shape read.says read.reserved_marked (c.in_ok-look_at_inodes.ensures.kinds s read.inodes) (c.in_ok-look_at_inodes.ensures.sizes s read.inodes) (number_rule (layout_of (g.V.Blocks.seen c.args.v.now) c.args.inodes.now) c.in_ok-look_at_each.ensures.ok) once 7 1 (refl, refl, λ rule. c.in_err-demand.ensures.0 ((c.keeps_marks.ensures s.words read.bitmap (number_rule (layout_of (g.V.Blocks.seen c.args.v.now) c.args.inodes.now) c.in_ok-look_at_each.ensures.ok) (subst (λ (xs : List Owner). HasOwners (layout_of s n) xs) (sym c.deref.ensures.value) own)).1 rule)))
+    (fails_marks s.words s.count n.shape read.says read.reserved_marked (c.in_ok-look_at_inodes.ensures.kinds s read.inodes) (c.in_ok-look_at_inodes.ensures.sizes s read.inodes) (record { each = c.in_ok-look_at_each.ensures.ok }) once 7 1 (refl, refl, λ rule. c.in_err-demand.ensures.0 ((c.keeps_marks.ensures s.words read.bitmap (record { each = c.in_ok-look_at_each.ensures.ok }) (subst (λ (xs : List Owner). HasOwners (layout_of s n) xs) (sym c.deref.ensures.value) own)).1 rule)))
 
 pub returns-clause-mapped : goal.returns-clause-mapped
 returns-clause-mapped g c =
@@ -91,7 +90,7 @@ returns-clause-mapped g c =
     let looks = c.in_ok-look_at_each.ensures.looked.looks in
     let once = layout_back s _ n OnceRule looks c.in_ok-owners.ensures.once in
     let own = layout_back s _ n (λ (l : Layout). HasOwners l c.in_ok-owners.owners.items) looks c.in_ok-owners.ensures.owners in
-    is_mapped s.words s.count n.shape read.says read.reserved_marked (c.in_ok-look_at_inodes.ensures.kinds s read.inodes) (c.in_ok-look_at_inodes.ensures.sizes s read.inodes) (number_rule (layout_of (g.V.Blocks.seen c.args.v.now) c.args.inodes.now) c.in_ok-look_at_each.ensures.ok) once ((c.keeps_marks.ensures s.words read.bitmap (number_rule (layout_of (g.V.Blocks.seen c.args.v.now) c.args.inodes.now) c.in_ok-look_at_each.ensures.ok) (subst (λ (xs : List Owner). HasOwners (layout_of s n) xs) (sym c.deref.ensures.value) own)).0 c.in_ok-demand.ensures)
+    is_mapped s.words s.count n.shape read.says read.reserved_marked (c.in_ok-look_at_inodes.ensures.kinds s read.inodes) (c.in_ok-look_at_inodes.ensures.sizes s read.inodes) (record { each = c.in_ok-look_at_each.ensures.ok }) once ((c.keeps_marks.ensures s.words read.bitmap (record { each = c.in_ok-look_at_each.ensures.ok }) (subst (λ (xs : List Owner). HasOwners (layout_of s n) xs) (sym c.deref.ensures.value) own)).0 c.in_ok-demand.ensures)
 
 pub returns-clause-owners : goal.returns-clause-owners
 returns-clause-owners g c = layout_back (g.V.Blocks.seen c.args.v.now) _ c.args.inodes.now (λ (l : Layout). HasOwners l c.in_ok-owners.owners.items) c.in_ok-look_at_each.ensures.looked.looks c.in_ok-owners.ensures.owners

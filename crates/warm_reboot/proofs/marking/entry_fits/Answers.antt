@@ -82,7 +82,7 @@ pub read_inode-requires-clause-ino : goal.read_inode-requires-clause-ino
 read_inode-requires-clause-ino g c = (page_owner (volume_layout c.args.shape.now (g.V.Blocks.seen c.args.v.now).words) c.args.owners.now _ c.in-PageOf.page c.in-PageOf.i c.requires.owners c.if-block-shape.false c.in-PageOf.is).ino
 
 pub read_inode-requires-clause-kind : goal.read_inode-requires-clause-kind
-read_inode-requires-clause-kind g c = c.requires.laid.kinds.each c.in-PageOf.i.0 (page_owner (volume_layout c.args.shape.now (g.V.Blocks.seen c.args.v.now).words) c.args.owners.now _ c.in-PageOf.page c.in-PageOf.i c.requires.owners c.if-block-shape.false c.in-PageOf.is).ino
+read_inode-requires-clause-kind g c = (c.requires.laid.kinds.each c.in-PageOf.i.0 (page_owner (volume_layout c.args.shape.now (g.V.Blocks.seen c.args.v.now).words) c.args.owners.now _ c.in-PageOf.page c.in-PageOf.i c.requires.owners c.if-block-shape.false c.in-PageOf.is).ino).0
 
 pub returns-in_err-inode-in-PageOf-clause-caches : goal.returns-in_err-inode-in-PageOf-clause-caches
 returns-in_err-inode-in-PageOf-clause-caches g c = caches_by_one _ _ _ _ _ c.read_inode.ensures.caches (inode_low c.args.shape.now c.in-PageOf.i.0 c.requires.shape.sizes (page_owner (volume_layout c.args.shape.now (g.V.Blocks.seen c.args.v.now).words) c.args.owners.now _ c.in-PageOf.page c.in-PageOf.i c.requires.owners c.if-block-shape.false c.in-PageOf.is).ino, refl)

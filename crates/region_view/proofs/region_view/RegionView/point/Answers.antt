@@ -6,7 +6,7 @@ use Rattle.region_view.proofs.UsedInodes.{leaves_inode}
 use Rattle.region_view.proofs.region_view.RegionView.point.Goals as goal
 
 pub read_inode-requires-clause-kind : goal.read_inode-requires-clause-kind
-read_inode-requires-clause-kind g c = c.requires.ready.order.mapped.laid.kinds.each _ c.requires.ino
+read_inode-requires-clause-kind g c = (c.requires.ready.order.mapped.laid.kinds.each _ c.requires.ino).0
 
 pub returns-in_err-inode-clause-leaves : goal.returns-in_err-inode-clause-leaves
 returns-in_err-inode-clause-leaves g c = leaves_inode c.args.self.now.shape _ _ _ _ _ _ _ _ c.args.i.0 c.requires.ready (subst (λ n. 0 < n) (sym c.requires.region) (omega arith)) c.read_inode.ensures.looks c.read_inode.ensures.caches (g.met.V.Volume.passes_keeps _ _ c.read_inode.ensures.passes)
