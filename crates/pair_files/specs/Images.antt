@@ -3,6 +3,8 @@ use Rattle.std.specs.Prelude.{◌≡◌, ◌<◌, ◌^◌, ℕ, List, ◌++◌, 
 use Rattle.rio_base.specs.Bytes.{bytes_of}
 use Rattle.rio_base.specs.Hosts.{Files, IsFile}
 use Rattle.rio_model.specs.Registry.{FailsRegistry, HasLayout, KeepsRegistry}
+use Rattle.rio_model.specs.RuleNumbers.{image_rule}
+use Rattle.rio_model.specs.declared.rules.ImageRule.TheVariants.{Length, Magic, Version, Geometry}
 use Rattle.image_codec.specs.Image.{FailsFirst, IsImage}
 use Rattle.image_codec.specs.declared.fault.ImageFault.TheVariants.{BadLength, BadMagic, BadVersion, BadGeometry}
 
@@ -16,8 +18,8 @@ pub record IsImageOf (bytes words : List ℕ) : Type 0 where
 -- those of the scratch pages lie
 abbrev pub FailsRule : List ℕ → ℕ → Type 0
 FailsRule bytes rule =
-    ((rule ≡ 1) × FailsFirst bytes BadLength) ⊎ ((rule ≡ 2) × FailsFirst bytes BadMagic)
-    ⊎ ((rule ≡ 3) × FailsFirst bytes BadVersion) ⊎ ((rule ≡ 4) × FailsFirst bytes BadGeometry)
+    ((rule ≡ image_rule Length) × FailsFirst bytes BadLength) ⊎ ((rule ≡ image_rule Magic) × FailsFirst bytes BadMagic)
+    ⊎ ((rule ≡ image_rule Version) × FailsFirst bytes BadVersion) ⊎ ((rule ≡ image_rule Geometry) × FailsFirst bytes BadGeometry)
     ⊎ ((words scratch : List ℕ) × IsImageOf bytes (words ++ scratch) × HasLayout words scratch × FailsRegistry words rule)
 
 -- the file breaks this rule first

@@ -12,6 +12,8 @@ use Rattle.rio_model.specs.Placed.{volume_layout}
 use Rattle.rio_model.specs.Registry.{HasLayout}
 use Rattle.rio_model.specs.Standing.{Restored, StandsFor}
 use Rattle.rio_model.specs.VolumeFails.{FailsPair}
+use Rattle.rio_model.specs.RuleNumbers.{volume_rule}
+use Rattle.rio_model.specs.declared.rules.VolumeRule.TheVariants.{Superblock}
 use Rattle.pair_files.specs.Images.{HoldsImage, IsImageOf}
 
 -- ---- bytes that are a pair
@@ -54,7 +56,7 @@ pub record HasPair (told : Option Files) (image disk image_bytes disk_bytes : Li
 pub record BreaksVolume (told : Option Files) (image disk : List ℕ) (rule b : ℕ) : Type 0 where
   pub words : List ℕ
   pub holds : HoldsImage told image words
-  pub fails : ((rule ≡ 1) × (b ≡ 0) × (size : ℕ) × HasSize told disk (Some size) × (IsDiskLength size → ⊥))
+  pub fails : ((rule ≡ volume_rule Superblock) × (b ≡ 0) × (size : ℕ) × HasSize told disk (Some size) × (IsDiskLength size → ⊥))
       ⊎ ((bytes : List ℕ) × (blocks : List (List ℕ)) × IsFile told disk bytes × AreBlocksIn bytes blocks × FailsPair (pair_machine words blocks) rule b)
 
 -- ---- a disk that only a reboot wrote

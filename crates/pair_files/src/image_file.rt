@@ -12,6 +12,7 @@ use crate::image_rules::check_words;
 use crate::names::PairFile;
 use image_codec::{ImageFault, read_image};
 use rio_base::{Failed, Host, read_from};
+use rio_model::ImageRule;
 use std::alloc::{AllocError, Global};
 
 /// The bytes of the longest image: 8,354 pages.
@@ -44,7 +45,7 @@ pub fn load_image<H: Host>(
 {
     let size = find_size(name, host)?;
     if size > LONGEST_IMAGE {
-        return Err(LoadFail::BadImage(1));
+        return Err(LoadFail::BadImage(ImageRule::Length as u8));
     }
     let bytes = read_file(alloc, name, size as usize, host)?;
     image_of(alloc, bytes)
@@ -139,10 +140,10 @@ fn words_of(alloc: Global, bytes: &[u8]) -> Result<Vec<u64>, LoadFail>
             words_fit(words.as_slice());
             Ok(words)
         }
-        Err(ImageFault::BadLength) => Err(LoadFail::BadImage(1)),
-        Err(ImageFault::BadMagic) => Err(LoadFail::BadImage(2)),
-        Err(ImageFault::BadVersion) => Err(LoadFail::BadImage(3)),
-        Err(ImageFault::BadGeometry) => Err(LoadFail::BadImage(4)),
+        Err(ImageFault::BadLength) => Err(LoadFail::BadImage(ImageRule::Length as u8)),
+        Err(ImageFault::BadMagic) => Err(LoadFail::BadImage(ImageRule::Magic as u8)),
+        Err(ImageFault::BadVersion) => Err(LoadFail::BadImage(ImageRule::Version as u8)),
+        Err(ImageFault::BadGeometry) => Err(LoadFail::BadImage(ImageRule::Geometry as u8)),
         Err(ImageFault::Memory) => Err(LoadFail::Memory),
     }
 }

@@ -25,6 +25,7 @@ use block_disk::HostDisk;
 use machine_bench::Bench;
 use page_cache::PageCache;
 use rio_base::{Block, DiskBlocks, Host, Machine, Sink, Source, VolumeShape};
+use rio_model::VolumeRule;
 use std::alloc::Global;
 use warm_reboot::{BootError, BootFail, boot};
 
@@ -67,7 +68,7 @@ fn end_unloaded<E>(fail: LoadFail) -> PairEnd<E>
     match fail {
         LoadFail::Absent(file) => PairEnd::Absent(file),
         LoadFail::BadImage(rule) => PairEnd::BadImage(rule),
-        LoadFail::BadLength => PairEnd::BadVolume(1, Block(0)),
+        LoadFail::BadLength => PairEnd::BadVolume(VolumeRule::Superblock as u8, Block(0)),
         LoadFail::Fault(file) => PairEnd::HostFault(file),
         LoadFail::Memory => PairEnd::Memory,
     }

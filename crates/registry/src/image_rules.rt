@@ -2,6 +2,7 @@
 
 ghost use Rattle.std.specs.Prelude.{◌≡◌, ◌<◌, ◌≤◌, ◌+◌, ◌*◌, ◌==◌, ◌↔◌, ℕ, IsTrue, MatchResult, if◌then◌else◌, length, true, false};
 ghost use Rattle.rio_model.specs.Registry.{BlockRule, FailsRegistry, HasLayout, IsValid, KeepsMetadata, KeepsName, KeepsRegistry, KeepsShadow, KeepsSize, KeepsTag, ShadowsApart, frames_of, tag_at, tag_block};
+ghost use Rattle.rio_model.specs.RuleNumbers.{image_rule};
 ghost use Rattle.registry.specs.Entries.{entry_of};
 ghost use Rattle.registry.specs.EntryRules.{EntryKeeps, IsFreeBefore, IsUnusedBefore, MarksBefore, block_mark};
 
@@ -9,6 +10,7 @@ use crate::entry::{Entry, load_tag, read_entry};
 use crate::pages::{GATE, frame_count};
 use crate::tag::Tag;
 use rio_base::{Block, Machine, PAGE_BYTES};
+use rio_model::ImageRule;
 use thiserror::Error;
 
 /// The first rule that an image breaks, by its number from 5 to 12.
@@ -54,22 +56,22 @@ pub fn check_image<M: Machine>(m: &M) -> Result<(), BadImage>
     requires layout { HasLayout (M.contents m.now).words (M.run m.now).scratch }
     ensures { MatchResult result (λ _. KeepsRegistry (M.contents m.now).words) (λ bad. FailsRegistry (M.contents m.now).words bad.0) }
 {
-    demand(5, m.load(GATE) <= 1)?;
-    demand(6, all_keep(m, EntryRule::Tag))?;
-    demand(7, are_blocks_apart(m))?;
-    demand(8, all_keep(m, EntryRule::Metadata))?;
-    demand(9, all_keep(m, EntryRule::Name))?;
-    demand(10, all_keep(m, EntryRule::Size))?;
-    demand(11, all_keep(m, EntryRule::Shadow))?;
-    demand(12, are_shadows_apart(m))?;
+    demand(ImageRule::Gate, m.load(GATE) <= 1)?;
+    demand(ImageRule::Tags, all_keep(m, EntryRule::Tag))?;
+    demand(ImageRule::BlocksOnce, are_blocks_apart(m))?;
+    demand(ImageRule::Metadata, all_keep(m, EntryRule::Metadata))?;
+    demand(ImageRule::PageNames, all_keep(m, EntryRule::Name))?;
+    demand(ImageRule::PageSizes, all_keep(m, EntryRule::Size))?;
+    demand(ImageRule::Shadows, all_keep(m, EntryRule::Shadow))?;
+    demand(ImageRule::ShadowsOnce, are_shadows_apart(m))?;
     Ok(())
 }
 
 /// `BadImage` with the rule's number, unless the rule holds.
-fn demand(rule: u8, holds: bool) -> Result<(), BadImage>
-    ensures { MatchResult result (λ _. holds ≡ true) (λ bad. (holds ≡ false) × (bad.0 ≡ rule)) }
+fn demand(rule: ImageRule, holds: bool) -> Result<(), BadImage>
+    ensures { MatchResult result (λ _. holds ≡ true) (λ bad. (holds ≡ false) × (bad.0 ≡ image_rule rule)) }
 {
-    if holds { Ok(()) } else { Err(BadImage(rule)) }
+    if holds { Ok(()) } else { Err(BadImage(rule.number())) }
 }
 
 // ---- what an entry keeps by itself

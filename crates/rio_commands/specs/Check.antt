@@ -11,6 +11,8 @@ use Rattle.rio_model.specs.Censuses.{IsCensus}
 use Rattle.rio_model.specs.Registry.{FailsRegistry}
 use Rattle.rio_model.specs.Standing.{StandsFor}
 use Rattle.rio_model.specs.VolumeFails.{FailsPair}
+use Rattle.rio_model.specs.RuleNumbers.{volume_rule}
+use Rattle.rio_model.specs.declared.rules.VolumeRule.TheVariants.{Superblock}
 use Rattle.pair_files.specs.Images.{Breaks, HoldsImage}
 use Rattle.pair_files.specs.Pairs.{BreaksVolume, HasPair, IsPair}
 use Rattle.pair_files.specs.declared.failures.LoadFail.{LoadFail}
@@ -77,7 +79,7 @@ pub record HasDisk (c : Contents) (d : DiskContents) : Type 0 where
 abbrev pub unloaded_end : LoadFail → CheckEnd
 unloaded_end (NotThere file) = Absent file
 unloaded_end (ImageRule rule) = BadImage rule
-unloaded_end BadLength = BadVolume 1 (record { 0 = 0 })
+unloaded_end BadLength = BadVolume (volume_rule Superblock) (record { 0 = 0 })
 unloaded_end (NotRead file) = HostFault file
 unloaded_end NotLoaded = Memory
 

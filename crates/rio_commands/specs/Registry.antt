@@ -4,6 +4,8 @@ use Rattle.std.specs.List.{range_with_len}
 use Rattle.rio_base.specs.Hosts.{Files, IsAbsent}
 use Rattle.rio_base.specs.Streams.{appended}
 use Rattle.rio_model.specs.Registry.{file_at, frames_of, gate_of, index_at, is_data, is_dirty, is_valid, scratch_of, shadow_at, size_at, tag_at, tag_block}
+use Rattle.rio_model.specs.RuleNumbers.{image_rule}
+use Rattle.rio_model.specs.declared.rules.ImageRule.TheVariants.{Length}
 use Rattle.pair_files.specs.Images.{Breaks, HoldsImage}
 use Rattle.pair_files.specs.declared.failures.LoadFail.{LoadFail}
 use Rattle.pair_files.specs.declared.failures.LoadFail.TheVariants.{Absent as NotThere, BadImage, BadLength, Fault, Memory as NotLoaded}
@@ -54,7 +56,7 @@ Misses SinkFault image host_rose files = ⊥
 abbrev pub unlisted_end : LoadFail → RegistryEnd
 unlisted_end (NotThere file) = Absent
 unlisted_end (BadImage rule) = Refused rule
-unlisted_end BadLength = Refused 1
+unlisted_end BadLength = Refused (image_rule Length)
 unlisted_end (Fault file) = HostFault
 unlisted_end NotLoaded = Memory
 

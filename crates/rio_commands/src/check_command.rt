@@ -22,6 +22,7 @@ use pair_files::{LoadFail, LoadedPair, PairFile, PairImage, PairNames, load_pair
 use phys_memory::{Memory, memory_of};
 use request_codec::ROOM_BYTES;
 use rio_base::{Block, DiskBlocks, Host, Machine, Sink};
+use rio_model::VolumeRule;
 use std::alloc::Global;
 use warm_reboot::{BootError, BootFail, examine};
 
@@ -64,7 +65,7 @@ fn unloaded(fail: LoadFail) -> CheckEnd
     match fail {
         LoadFail::Absent(file) => CheckEnd::Absent(file),
         LoadFail::BadImage(rule) => CheckEnd::BadImage(rule),
-        LoadFail::BadLength => CheckEnd::BadVolume(1, Block(0)),
+        LoadFail::BadLength => CheckEnd::BadVolume(VolumeRule::Superblock as u8, Block(0)),
         LoadFail::Fault(file) => CheckEnd::HostFault(file),
         LoadFail::Memory => CheckEnd::Memory,
     }

@@ -16,6 +16,7 @@ use pair_files::{LoadFail, board_of, load_image};
 use phys_memory::Memory;
 use request_codec::ROOM_BYTES;
 use rio_base::{Host, Machine, Sink};
+use rio_model::ImageRule;
 use std::alloc::Global;
 
 /// Looks whether an image keeps its rules, and lists its registry where it does. Answers the status: 0 where all lines
@@ -68,7 +69,7 @@ fn unlisted(fail: LoadFail) -> RegistryEnd
     match fail {
         LoadFail::Absent(_) => RegistryEnd::Absent,
         LoadFail::BadImage(rule) => RegistryEnd::Refused(rule),
-        LoadFail::BadLength => RegistryEnd::Refused(1),
+        LoadFail::BadLength => RegistryEnd::Refused(ImageRule::Length as u8),
         LoadFail::Fault(_) => RegistryEnd::HostFault,
         LoadFail::Memory => RegistryEnd::Memory,
     }

@@ -16,6 +16,7 @@ pub mod ReadState
 pub mod Refusals
 pub mod RegionMoves
 pub mod Registry
+pub mod RuleNumbers
 pub mod Sizes
 pub mod Standing
 pub mod States

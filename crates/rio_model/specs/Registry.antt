@@ -1,6 +1,8 @@
 -- The registry in a machine's words: an entry of five words for each frame, the page that counts for it, and the rules.
 use Rattle.std.specs.Prelude.{◌≡◌, ◌≢◌, ℕ, ◌+◌, ◌-◌, ◌*◌, ◌/◌, ◌%◌, ◌^◌, ◌<◌, ◌≤◌, ◌==◌, ◌&&◌, ◌⊎◌, not, Bool, true, false, if◌then◌else◌, List, length, slice_index}
 use Rattle.rio_base.specs.Image.{AreImageSizes, entry_at, registry_pages}
+use Rattle.rio_model.specs.RuleNumbers.{image_rule}
+use Rattle.rio_model.specs.declared.rules.ImageRule.TheVariants.{Gate, Tags, BlocksOnce, Metadata, PageNames, PageSizes, Shadows, ShadowsOnce}
 
 -- ---- the header
 
@@ -157,14 +159,14 @@ pub record KeepsRegistry (words : List ℕ) : Type 0 where
 -- rule r is the first of these to fail: it fails, and those before it hold
 abbrev pub FailsRegistry : List ℕ → ℕ → Type 0
 FailsRegistry words r =
-    ((r ≡ 5) × ¬ GateRule words) ⊎ (GateRule words × (
-    ((r ≡ 6) × ¬ TagRule words) ⊎ (TagRule words × (
-    ((r ≡ 7) × ¬ BlockRule words) ⊎ (BlockRule words × (
-    ((r ≡ 8) × ¬ MetadataRule words) ⊎ (MetadataRule words × (
-    ((r ≡ 9) × ¬ NameRule words) ⊎ (NameRule words × (
-    ((r ≡ 10) × ¬ SizeRule words) ⊎ (SizeRule words × (
-    ((r ≡ 11) × ¬ ShadowRule words) ⊎ (ShadowRule words × (
-    (r ≡ 12) × ¬ ShadowsApart words))))))))))))))
+    ((r ≡ image_rule Gate) × ¬ GateRule words) ⊎ (GateRule words × (
+    ((r ≡ image_rule Tags) × ¬ TagRule words) ⊎ (TagRule words × (
+    ((r ≡ image_rule BlocksOnce) × ¬ BlockRule words) ⊎ (BlockRule words × (
+    ((r ≡ image_rule Metadata) × ¬ MetadataRule words) ⊎ (MetadataRule words × (
+    ((r ≡ image_rule PageNames) × ¬ NameRule words) ⊎ (NameRule words × (
+    ((r ≡ image_rule PageSizes) × ¬ SizeRule words) ⊎ (SizeRule words × (
+    ((r ≡ image_rule Shadows) × ¬ ShadowRule words) ⊎ (ShadowRule words × (
+    (r ≡ image_rule ShadowsOnce) × ¬ ShadowsApart words))))))))))))))
 
 -- ---- one entry
 

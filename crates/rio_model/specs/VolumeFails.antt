@@ -16,6 +16,8 @@ use Rattle.rio_model.specs.Registry.{IsValid, tag_at, tag_block}
 use Rattle.rio_model.specs.Standing.{EntryFits}
 use Rattle.rio_model.specs.VolumeReads.{Reads, ReadsAs}
 use Rattle.rio_model.specs.VolumeRules.{ApartAt, EntryAt, EntryRule, KindAt, KindRule, MarkRule, NamesApartRule, NumberAt, NumberRule, OnceRule, RegionAt, ReservedRule, SizeAt, SizeRule, TreeRule}
+use Rattle.rio_model.specs.RuleNumbers.{volume_rule}
+use Rattle.rio_model.specs.declared.rules.VolumeRule.TheVariants.{Superblock, Reserved, Kinds, Sizes, Numbers, Once, Marks, Entries, NamesApart, Tree, Regions, Cached}
 
 -- ---- rule 1: it fails, with block 0, where the superblock says no shape of which this holds
 
@@ -73,28 +75,28 @@ pub record IsLeastTwice (l : Layout) (b : ℕ) : Type 0 where
 pub record FailsTree (shape : VolumeShape) (held : ℕ → Held) (rule b : ℕ) : Type 0 where
   pub state : State
   pub reads : Reads held state
-  pub fails : ((rule ≡ 10) × FailsFirst shape (TreeAt state) b) ⊎ (TreeRule state × (rule ≡ 11) × FailsFirst shape (RegionAt held) b)
+  pub fails : ((rule ≡ volume_rule Tree) × FailsFirst shape (TreeAt state) b) ⊎ (TreeRule state × (rule ≡ volume_rule Regions) × FailsFirst shape (RegionAt held) b)
 
 -- of the rules 8 to 11, by what the inodes hold
 abbrev pub FailsHeld : VolumeShape → (ℕ → Held) → ℕ → ℕ → Type 0
 FailsHeld shape held rule b =
-    ((rule ≡ 8) × FailsFirst shape (EntryAt held) b) ⊎ (EntryRule held × (
-    ((rule ≡ 9) × FailsFirst shape (ApartAt held) b) ⊎ (NamesApartRule held × FailsTree shape held rule b)))
+    ((rule ≡ volume_rule Entries) × FailsFirst shape (EntryAt held) b) ⊎ (EntryRule held × (
+    ((rule ≡ volume_rule NamesApart) × FailsFirst shape (ApartAt held) b) ⊎ (NamesApartRule held × FailsTree shape held rule b)))
 
 -- of the rules 2 to 11, for a volume of this shape
 abbrev pub FailsOn : VolumeShape → BlockWords → ℕ → ℕ → Type 0
 FailsOn shape f rule b =
-    ((rule ≡ 2) × (b ≡ 1) × ¬ ReservedRule shape f) ⊎ (ReservedRule shape f × (
-    ((rule ≡ 3) × FailsFirst shape (KindAt (volume_layout shape f)) b) ⊎ (KindRule (volume_layout shape f) × (
-    ((rule ≡ 4) × FailsFirst shape (SizeAt (volume_layout shape f)) b) ⊎ (SizeRule (volume_layout shape f) × (
-    ((rule ≡ 5) × FailsFirst shape (NumberAt (volume_layout shape f)) b) ⊎ (NumberRule (volume_layout shape f) × (
-    ((rule ≡ 6) × IsLeastTwice (volume_layout shape f) b) ⊎ (OnceRule (volume_layout shape f) × (
-    ((rule ≡ 7) × (b ≡ 1) × ¬ MarkRule (volume_layout shape f) f) ⊎ (MarkRule (volume_layout shape f) f × FailsHeld shape (held_of shape f) rule b)))))))))))
+    ((rule ≡ volume_rule Reserved) × (b ≡ 1) × ¬ ReservedRule shape f) ⊎ (ReservedRule shape f × (
+    ((rule ≡ volume_rule Kinds) × FailsFirst shape (KindAt (volume_layout shape f)) b) ⊎ (KindRule (volume_layout shape f) × (
+    ((rule ≡ volume_rule Sizes) × FailsFirst shape (SizeAt (volume_layout shape f)) b) ⊎ (SizeRule (volume_layout shape f) × (
+    ((rule ≡ volume_rule Numbers) × FailsFirst shape (NumberAt (volume_layout shape f)) b) ⊎ (NumberRule (volume_layout shape f) × (
+    ((rule ≡ volume_rule Once) × IsLeastTwice (volume_layout shape f) b) ⊎ (OnceRule (volume_layout shape f) × (
+    ((rule ≡ volume_rule Marks) × (b ≡ 1) × ¬ MarkRule (volume_layout shape f) f) ⊎ (MarkRule (volume_layout shape f) f × FailsHeld shape (held_of shape f) rule b)))))))))))
 
 -- of the rules 1 to 11, for blocks of a disk that has so many
 abbrev pub FailsVolume : BlockWords → ℕ → ℕ → ℕ → Type 0
 FailsVolume f count rule b =
-    ((rule ≡ 1) × (b ≡ 0) × ((shape : VolumeShape) → ¬ SaysShape f count shape))
+    ((rule ≡ volume_rule Superblock) × (b ≡ 0) × ((shape : VolumeShape) → ¬ SaysShape f count shape))
     ⊎ ((shape : VolumeShape) × SaysShape f count shape × FailsOn shape f rule b)
 
 -- ---- rule 12
@@ -111,4 +113,4 @@ pub record FailsEntries (l : Layout) (words : List ℕ) (b : ℕ) : Type 0 where
 abbrev pub FailsPair : Contents → ℕ → ℕ → Type 0
 FailsPair c rule b =
     FailsVolume (stands c) (length c.disk) rule b
-    ⊎ ((s : State) × SaysShape (stands c) (length c.disk) s.shape × ReadsAs s.shape (stands c) s × (rule ≡ 12) × FailsEntries (volume_layout s.shape (stands c)) c.words b)
+    ⊎ ((s : State) × SaysShape (stands c) (length c.disk) s.shape × ReadsAs s.shape (stands c) s × (rule ≡ volume_rule Cached) × FailsEntries (volume_layout s.shape (stands c)) c.words b)

@@ -6,6 +6,7 @@ mod names;
 mod node;
 mod refusal;
 mod rows;
+mod rules;
 mod state;
 mod txn;
 
@@ -14,5 +15,6 @@ pub use names::{is_name, is_name_byte, may_be_name};
 pub use node::{Node, RegionNode};
 pub use refusal::Refusal;
 pub use rows::{NameRow, NameRows, NodeRow, NodeRows};
+pub use rules::{ImageRule, VolumeRule};
 pub use state::State;
 pub use txn::{Txn, TxnList};

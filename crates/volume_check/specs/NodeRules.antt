@@ -5,6 +5,8 @@ use Rattle.rio_base.specs.declared.places.VolumeShape.{VolumeShape}
 use Rattle.rio_model.specs.Held.{held_of}
 use Rattle.rio_model.specs.Placed.{volume_layout}
 use Rattle.rio_model.specs.VolumeRules.{EntryRule, IsMapped, SizeRule, ApartAt, EntryAt, NumberAt, RegionAt}
+use Rattle.rio_model.specs.RuleNumbers.{volume_rule}
+use Rattle.rio_model.specs.declared.rules.VolumeRule.TheVariants.{Numbers as NumbersRule, Entries as EntriesRule, NamesApart, Regions}
 use Rattle.volume_check.specs.declared.node_rules.NodeRule.{NodeRule}
 use Rattle.volume_check.specs.declared.node_rules.NodeRule.TheVariants.{Entries, Format, Names, Numbers}
 
@@ -16,10 +18,10 @@ NodeKeeps Names shape f i = ApartAt (held_of shape f) i
 NodeKeeps Format shape f i = RegionAt (held_of shape f) i
 
 abbrev pub node_number : NodeRule → ℕ
-node_number Numbers = 5
-node_number Entries = 8
-node_number Names = 9
-node_number Format = 11
+node_number Numbers = volume_rule NumbersRule
+node_number Entries = volume_rule EntriesRule
+node_number Names = volume_rule NamesApart
+node_number Format = volume_rule Regions
 
 -- what holds before the rule is looked at
 abbrev pub Supposes : NodeRule → VolumeShape → BlockWords → Type 0

@@ -14,6 +14,7 @@ use crate::failures::CheckFail;
 use crate::inodes::Inodes;
 use inode_table::{LARGEST_SIZE, inode_block};
 use rio_base::{Ino, Kind, PAGE_BYTES};
+use rio_model::VolumeRule;
 
 /// A directory, as a word.
 pub const DIRECTORY: u64 = Kind::Directory as u64;
@@ -128,10 +129,10 @@ pub fn look_at_inodes(inodes: &Inodes) -> Result<(), CheckFail>
     ensures quiet { IfErr result TellsRule }
 {
     if let Some(i) = least_breaking(inodes, InodeRule::Kind) {
-        return Err(broken_at(inodes, 3, i));
+        return Err(broken_at(inodes, VolumeRule::Kinds as u8, i));
     }
     if let Some(i) = least_breaking(inodes, InodeRule::Size) {
-        return Err(broken_at(inodes, 4, i));
+        return Err(broken_at(inodes, VolumeRule::Sizes as u8, i));
     }
     Ok(())
 }

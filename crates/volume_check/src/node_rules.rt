@@ -15,6 +15,7 @@ use crate::names::keeps_apart;
 use crate::numbers::keeps_numbers;
 use crate::regions::keeps_format;
 use rio_base::{Blocks, Ino};
+use rio_model::VolumeRule;
 use std::alloc::Global;
 
 /// A rule that a node keeps or breaks by itself.
@@ -36,10 +37,10 @@ impl NodeRule {
         ensures { result ≡ node_number self }
     {
         match self {
-            NodeRule::Numbers => 5,
-            NodeRule::Entries => 8,
-            NodeRule::Names => 9,
-            NodeRule::Format => 11,
+            NodeRule::Numbers => VolumeRule::Numbers as u8,
+            NodeRule::Entries => VolumeRule::Entries as u8,
+            NodeRule::Names => VolumeRule::NamesApart as u8,
+            NodeRule::Format => VolumeRule::Regions as u8,
         }
     }
 }

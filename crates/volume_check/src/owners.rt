@@ -16,7 +16,7 @@ use crate::failures::CheckFail;
 use crate::inodes::Inodes;
 use crate::numbers::read_numbers;
 use rio_base::{Block, Blocks, Ino};
-use rio_model::Owner;
+use rio_model::{Owner, VolumeRule};
 use std::alloc::Global;
 
 /// Whether this is a node.
@@ -110,7 +110,7 @@ pub fn find_owners<V: Blocks>(
         least = claim_all(&mut owners, i, count, &blocks, least);
     }
     match least {
-        Some(b) => Err(CheckFail::BadVolume(6, b)),
+        Some(b) => Err(CheckFail::BadVolume(VolumeRule::Once as u8, b)),
         None => Ok(owners),
     }
 }

@@ -12,6 +12,7 @@ use crate::failures::CheckFail;
 use crate::reading::read_words;
 use inode_table::BLOCK_INODES;
 use rio_base::{BLOCK_WORDS, Block, Blocks, VOLUME_MAGIC, VolumeShape};
+use rio_model::VolumeRule;
 
 /// The version of the layout that is served.
 const VERSION: u32 = 1;
@@ -80,15 +81,15 @@ pub fn read_shape<V: Blocks>(v: &mut V) -> Result<VolumeShape, CheckFail>
 {
     let count = v.volume_blocks();
     if count < FEWEST_BLOCKS {
-        return Err(CheckFail::BadVolume(1, Block(0)));
+        return Err(CheckFail::BadVolume(VolumeRule::Superblock as u8, Block(0)));
     }
     if count > BLOCK_BITS {
-        return Err(CheckFail::BadVolume(1, Block(0)));
+        return Err(CheckFail::BadVolume(VolumeRule::Superblock as u8, Block(0)));
     }
     let mut words = [0; SUPERBLOCK_WORDS];
     read_words(v, Block(0), 0, &mut words)?;
     match shape_of(&words, count) {
         Some(shape) => Ok(shape),
-        None => Err(CheckFail::BadVolume(1, Block(0))),
+        None => Err(CheckFail::BadVolume(VolumeRule::Superblock as u8, Block(0))),
     }
 }

@@ -5,6 +5,8 @@ ghost use Rattle.rio_base.specs.Layout.{IsIno};
 ghost use Rattle.rio_model.specs.Held.{held_of};
 ghost use Rattle.rio_model.specs.VolumeFails.{TreeAt};
 ghost use Rattle.rio_model.specs.VolumeRules.{EntryRule, IsMapped, NamesApartRule, TreeRule};
+ghost use Rattle.rio_model.specs.RuleNumbers.{volume_rule};
+ghost use Rattle.rio_model.specs.declared.rules.VolumeRule.TheVariants.{Tree};
 ghost use Rattle.volume_check.specs.Looking.{CanLook, Looked, Refuses};
 ghost use Rattle.volume_check.specs.Rules.{FailsBy};
 ghost use Rattle.volume_check.specs.InodeRules.{Finds};
@@ -17,6 +19,7 @@ use crate::inodes::Inodes;
 use crate::name_counts::{NameCount, count_names};
 use crate::reaching::{ROOT, reach_all};
 use rio_base::{Blocks, Ino};
+use rio_model::VolumeRule;
 use std::alloc::Global;
 
 /// Whether inode `i` keeps rule 10, where it has so many names.
@@ -61,13 +64,13 @@ pub(crate) fn look_at_tree<V: Blocks>(
     requires entries { EntryRule (held_of inodes.now.shape (V.seen v.old).words) }
     requires apart { NamesApartRule (held_of inodes.now.shape (V.seen v.old).words) }
     ensures ok { OnOk result (TreeRule (state_of inodes.now.shape (held_of inodes.now.shape (V.seen v.old).words))) }
-    ensures refused { IfErr result (Refuses (FailsBy 10 inodes.now.shape (TreeAt (state_of inodes.now.shape (held_of inodes.now.shape (V.seen v.old).words))))) }
+    ensures refused { IfErr result (Refuses (FailsBy (volume_rule Tree) inodes.now.shape (TreeAt (state_of inodes.now.shape (held_of inodes.now.shape (V.seen v.old).words))))) }
     ensures looked { Looked V.seen V.health V.sound V.passes v.old v.new result }
 {
     let counts = count_names(alloc, v, inodes)?;
     let reached = reach_all(alloc, v, inodes)?;
     if let Some(i) = least_loose(inodes, &counts, &reached) {
-        return Err(broken_at(inodes, 10, i));
+        return Err(broken_at(inodes, VolumeRule::Tree as u8, i));
     }
     Ok(())
 }

@@ -8,6 +8,7 @@ ghost use Rattle.rio_model.specs.Placed.{volume_layout};
 ghost use Rattle.rio_model.specs.VolumeFails.{FailsVolume};
 ghost use Rattle.rio_model.specs.VolumeReads.{ReadsAs};
 ghost use Rattle.rio_model.specs.VolumeRules.{IsMapped};
+ghost use Rattle.rio_model.specs.RuleNumbers.{volume_rule};
 ghost use Rattle.volume_check.specs.Bitmap.{HasRead};
 ghost use Rattle.volume_check.specs.Looking.{CanLook, Looked, Refuses};
 ghost use Rattle.volume_check.specs.Inodes.{layout_of};
@@ -24,17 +25,17 @@ use crate::owners::find_owners;
 use crate::reading::read_inodes;
 use crate::superblock::read_shape;
 use rio_base::Blocks;
-use rio_model::{Census, Owner};
+use rio_model::{Census, Owner, VolumeRule};
 use std::alloc::Global;
 
 /// `BadVolume` with a rule on the bitmap, unless it holds.
-fn demand(rule: u8, holds: bool) -> Result<(), CheckFail>
-    ensures { MatchResult result (λ _. IsTrue holds) (λ fail. (¬ IsTrue holds) × (fail ≡ CheckFail.BadVolume rule (record { 0 = 1 }))) }
+fn demand(rule: VolumeRule, holds: bool) -> Result<(), CheckFail>
+    ensures { MatchResult result (λ _. IsTrue holds) (λ fail. (¬ IsTrue holds) × (fail ≡ CheckFail.BadVolume (volume_rule rule) (record { 0 = 1 }))) }
 {
     if holds {
         Ok(())
     } else {
-        Err(CheckFail::BadVolume(rule, BITMAP))
+        Err(CheckFail::BadVolume(rule.number(), BITMAP))
     }
 }
 
@@ -47,7 +48,7 @@ fn read_volume<V: Blocks>(alloc: Global, v: &mut V) -> Result<(Bitmap, Inodes), 
 {
     let shape = read_shape(v)?;
     let bitmap = read_bitmap(alloc, v, &shape)?;
-    demand(2, keeps_reserved(&shape, &bitmap))?;
+    demand(VolumeRule::Reserved, keeps_reserved(&shape, &bitmap))?;
     let inodes = read_inodes(alloc, v, &shape)?;
     Ok((bitmap, inodes))
 }
@@ -69,7 +70,7 @@ fn look_at_layout<V: Blocks>(
     look_at_inodes(inodes)?;
     look_at_each(alloc, v, inodes, NodeRule::Numbers)?;
     let owners = find_owners(alloc, v, inodes)?;
-    demand(7, keeps_marks(&inodes.shape, bitmap, &owners))?;
+    demand(VolumeRule::Marks, keeps_marks(&inodes.shape, bitmap, &owners))?;
     Ok(owners)
 }
 

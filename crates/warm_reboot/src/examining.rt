@@ -20,7 +20,7 @@ use crate::report::{BootError, BootFail};
 use region_recovery::list_regions;
 use registry::{BadImage, CoverView, check_image};
 use rio_base::{Blocks, Ino, Machine};
-use rio_model::Census;
+use rio_model::{Census, VolumeRule};
 use std::alloc::Global;
 use volume_check::look_at_volume;
 
@@ -96,7 +96,7 @@ fn look_at_pair<M: Machine>(alloc: Global, view: &mut CoverView<M>) -> Result<Ex
 {
     let (census, owners) = look_at_volume(alloc, view)?;
     if let Some(block) = least_misfit(view, &census.shape, &owners)? {
-        return Err(BootFail::BadVolume(12, block));
+        return Err(BootFail::BadVolume(VolumeRule::Cached as u8, block));
     }
     let regions = list_regions(alloc, view, &census.shape)?;
     let marks = mark_stale(alloc, view.machine(), &owners)?;
