@@ -117,8 +117,8 @@ fn answer_by_name<V: Volume>(
             Err(_) => Ok(Reply::Err(Refusal::NoMemory as u8)),
         },
         Request::List { path } => names_reply(list(alloc, v, shape, memo, path.as_slice())),
-        // Not reached: other requests are answered elsewhere.
-        _ => Ok(Reply::Err(Refusal::BadRequest as u8)),
+        // The others are answered elsewhere.
+        _ => unreachable!(),
     }
 }
 

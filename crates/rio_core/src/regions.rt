@@ -20,7 +20,6 @@ use file_tree::Memo;
 use node_making::stand_at;
 use region_view::RegionView;
 use rio_base::{Stopped, Volume};
-use rio_model::Refusal;
 use rio_requests::{Reply, Request};
 use std::alloc::Global;
 use vista_region::OpenTable;
@@ -111,7 +110,7 @@ fn answer_within<V: Volume>(
         Request::Get { off, len, .. } => get_reply(table.get(alloc, view, i, *off, *len)),
         Request::Alloc { units, .. } => number_reply(table.allocate(view, i, *units)),
         Request::Free { at, .. } => txn_reply(table.release(view, i, *at)),
-        // Not reached: other requests are answered elsewhere.
-        _ => Ok(Reply::Err(Refusal::BadRequest as u8)),
+        // The others are answered elsewhere.
+        _ => unreachable!(),
     }
 }

@@ -102,10 +102,10 @@ returns-in-List-clause-answered g c =
 pub returns-in-List-clause-ends : goal.returns-in-List-clause-ends
 returns-in-List-clause-ends g c = reply_ends SaysNames _ _ c.list.result c.names_reply.result (λ v n h. no_names h) c.names_reply.ensures c.list.ensures.ends
 
-pub returns-in_default : goal.returns-in_default
-returns-in_default g c =
+pub unreachable-requires : goal.unreachable-requires
+unreachable-requires g c =
     let d = c.in_default in
-    absurd (none_by_name c.args.request.now (record { unlink = d.not-Unlink; rmdir = d.not-Rmdir; rename = d.not-Rename; list = d.not-List }) c.requires.by_name)
+    none_by_name c.args.request.now (record { unlink = d.not-Unlink; rmdir = d.not-Rmdir; rename = d.not-Rename; list = d.not-List }) c.requires.by_name
 
 pub returns-in-Ok-clause-in_step : goal.returns-in-Ok-clause-in_step
 returns-in-Ok-clause-in_step g c = λ on. c.unlink.ensures.in_step (not_stopped {T = Unit {0}} SaysDone c.unlink.result c.done_reply.result c.done_reply.ensures on)

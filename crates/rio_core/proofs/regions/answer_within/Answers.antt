@@ -64,10 +64,10 @@ returns-in-Free-clause-answered g c =
 pub returns-in-Free-clause-ends : goal.returns-in-Free-clause-ends
 returns-in-Free-clause-ends g c = ends_by_as (g.V.Blocks.health c.args.view.now.v) (g.V.Blocks.health c.release.new.r.v) (IsFault c.release.result) (IsErrOf c.release.result Stopped) (TellsFault c.txn_reply.result) (IsErr c.txn_reply.result) c.txn_reply.ensures.fault c.txn_reply.ensures.stop c.txn_reply.ensures.stopped c.release.ensures.causes
 
-pub returns-in_default : goal.returns-in_default
-returns-in_default g c =
+pub unreachable-requires : goal.unreachable-requires
+unreachable-requires g c =
     let d = c.in_default in
-    absurd (none_within c.args.request.now (record { put = d.not-Put; get = d.not-Get; alloc = d.not-Alloc; free = d.not-Free }) c.requires.within)
+    none_within c.args.request.now (record { put = d.not-Put; get = d.not-Get; alloc = d.not-Alloc; free = d.not-Free }) c.requires.within
 
 pub put-requires-clause-ready : goal.put-requires-clause-ready
 put-requires-clause-ready g c = (c.requires.sound, c.requires.on, c.requires.inode)
