@@ -3,14 +3,11 @@ use Rattle.std.proofs.Common.{◌≡◌, ℕ, zero, suc, ◌+◌, ◌<◌, ◌�
 use Rattle.std.proofs.Math.Seq.{take-add}
 use Rattle.std.proofs.lemmas.List.{drop-drop, length-take}
 use Rattle.rio_base.specs.Failures.{Rose}
-use Rattle.rio_base.specs.Hosts.{Files, HasBytes}
+use Rattle.rio_base.specs.Hosts.{Files, HasBytes, bytes_in}
 
 -- the bytes that came, where some came, are the file's from off on
 abbrev pub HaveCome : Option Files → List ℕ → ℕ → ℕ → List ℕ → Type 0
 HaveCome files name off done room = 0 < done → HasBytes files name off (take done room)
-
-some_list : (x y : List ℕ) → Some x ≡ Some y → x ≡ y
-some_list x y e = cc
 
 -- so many bytes are taken
 taken : (n : ℕ) (xs : List ℕ) → n ≤ length xs → length (take n xs) ≡ n
@@ -31,15 +28,12 @@ come_more (Some files) name off zero n room new before bytes same fits =
     let here : off + 0 ≡ off = omega arith in
     let all : n ≡ 0 + n = omega arith in
     subst (λ k. HasBytes (Some files) name off (take k new)) all (subst (λ k. HasBytes (Some files) name k (take n new)) here bytes)
-come_more (Some files) name off (suc d) n room new before (whole', at', piece) same fits =
+come_more (Some files) name off (suc d) n room new before piece' same fits =
     let done : ℕ = suc d in
-    let have = before (omega arith) in
-    let whole : List ℕ = have.0 in
-    let one : whole' ≡ whole = some_list whole' whole (sym at' ∙ have.1) in
-    let front : take done new ≡ take done (drop off whole) = same ∙ have.2 ∙ ap (λ k. take k (drop off whole)) (ap length (sym same) ∙ taken done new (omega (arith, fits))) in
-    let next : take n (drop done new) ≡ take n (drop (off + done) whole) =
-    piece ∙ ap (λ k. take k (drop (off + done) whole')) (taken n (drop done new) (omega (arith, length-drop done new, fits))) ∙ ap (λ (w : List ℕ). take n (drop (off + done) w)) one in
-    (whole, have.1, joined off done n whole new fits front next)
+    let whole : List ℕ = bytes_in files name in
+    let front : take done new ≡ take done (drop off whole) = same ∙ before (omega arith) ∙ ap (λ k. take k (drop off whole)) (ap length (sym same) ∙ taken done new (omega (arith, fits))) in
+    let next : take n (drop done new) ≡ take n (drop (off + done) whole) = piece' ∙ ap (λ k. take k (drop (off + done) whole)) (taken n (drop done new) (omega (arith, length-drop done new, fits))) in
+    joined off done n whole new fits front next
 
 -- ---- one piece, lent behind what came before
 

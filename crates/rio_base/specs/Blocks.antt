@@ -6,6 +6,7 @@ use Rattle.rio_base.specs.declared.failures.VolFail.TheVariants.{Fault, Stopped}
 use Rattle.rio_base.specs.declared.failures.RunFail.{RunFail}
 use Rattle.rio_base.specs.declared.failures.RunFail.TheVariants.{Fault as RunFault, Stopped as RunStopped}
 use Rattle.rio_base.specs.Failures.{Rose}
+use Rattle.rio_base.specs.Hosts.{Asked}
 
 -- the words of all blocks: block, then word of the block
 abbrev pub BlockWords : Type 0
@@ -16,10 +17,12 @@ pub record Home : Type 0 where
   pub disk : BlockWords
   pub pending : ℕ → Bool
 
--- what a disk keeps beside its blocks: the name of its file, and the host's other files by name, where they are told
+-- what a disk keeps beside its blocks: the name of its file, the host's other files by name, where they are told, and how
+-- often these were asked for
 pub record Around : Type 0 where
   pub file : List ℕ
   pub others : List ℕ → Option (List ℕ)
+  pub asked : Asked
 
 -- why a machine may stop
 pub record Causes : Type 0 where

@@ -1,13 +1,25 @@
 -- What the files of a host are, and what its calls say of them, each only where the host tells its files.
-use Rattle.std.specs.Prelude.{◌≡◌, ◌≤◌, ℕ, ◌+◌, ◌-◌, List, [], ◌∷◌, ◌++◌, length, take, drop, replicate, slice_index, max, Option, Some, None, ◌⊎◌, ◌<◌}
+use Rattle.std.specs.Prelude.{◌≡◌, ◌≤◌, ℕ, ◌+◌, ◌-◌, List, [], ◌∷◌, ◌++◌, length, take, drop, replicate, slice_index, max, Option, Some, None, unwrap_or, ◌⊎◌, ◌<◌}
 use Rattle.std.specs.Option.{option_map}
 use Rattle.std.specs.Ordering.{nat_cmp}
 use Rattle.std.specs.Cmp.Lexicographic.{slice_cmp}
-use Rattle.std.specs.FinMap.{FinMap, get, insert}
+use Rattle.std.specs.FinMap.{FinMap, get, insert, remove}
 
 -- the bytes of each file, by the bytes of its name
 abbrev pub Files : Type 0
 Files = FinMap (slice_cmp nat_cmp) (List ℕ)
+
+-- how often each file was asked for, by the bytes of its name
+abbrev pub Asked : Type 0
+Asked = FinMap (slice_cmp nat_cmp) ℕ
+
+-- no file but the one of this name was asked for
+abbrev pub AsksFor : List ℕ → Asked → Asked → Type 0
+AsksFor name old new = remove new name ≡ remove old name
+
+-- the bytes of the file of this name, none where it isn't there
+abbrev pub bytes_in : Files → List ℕ → List ℕ
+bytes_in files name = unwrap_or (get files name) []
 
 -- the files, with these bytes for the file of this name
 abbrev pub with_file : List ℕ → List ℕ → Option Files → Option Files
@@ -29,15 +41,15 @@ abbrev pub IsAbsent : Option Files → List ℕ → Type 0
 IsAbsent None name = Unit {0}
 IsAbsent (Some files) name = get files name ≡ None
 
--- the file is there, and has these bytes from off on
+-- the file has these bytes from off on. One that isn't there has none
 abbrev pub HasBytes : Option Files → List ℕ → ℕ → List ℕ → Type 0
 HasBytes None name off bytes = Unit {0}
-HasBytes (Some files) name off bytes = (whole : List ℕ) × (get files name ≡ Some whole) × (bytes ≡ take (length bytes) (drop off whole))
+HasBytes (Some files) name off bytes = bytes ≡ take (length bytes) (drop off (bytes_in files name))
 
--- the file is there, and has no byte from off on
+-- the file has no byte from off on
 abbrev pub EndsBy : Option Files → List ℕ → ℕ → Type 0
 EndsBy None name off = Unit {0}
-EndsBy (Some files) name off = (whole : List ℕ) × (get files name ≡ Some whole) × (length whole ≤ off)
+EndsBy (Some files) name off = length (bytes_in files name) ≤ off
 
 -- bytes with others over those from off on. They grow by zeros where they end before that
 abbrev pub overwritten : List ℕ → ℕ → List ℕ → List ℕ
@@ -47,10 +59,10 @@ overwritten bytes off (b ∷ from) =
     let grown : List ℕ = bytes ++ replicate (end - length bytes) 0 in
     take off grown ++ (b ∷ from) ++ drop end grown
 
--- the file is there and was overwritten, and all others are as before
+-- the file was overwritten, and made where it wasn't there. All others are as before
 abbrev pub Overwrites : Option Files → List ℕ → ℕ → List ℕ → Option Files → Type 0
 Overwrites None name off from new = new ≡ None
-Overwrites (Some files) name off from new = (whole : List ℕ) × (get files name ≡ Some whole) × (new ≡ Some (insert files name (overwritten whole off from)))
+Overwrites (Some files) name off from new = new ≡ Some (insert files name (overwritten (bytes_in files name) off from))
 
 -- bytes that differ at most from off on, in n places. They may have grown to the end of these
 pub record DifferWithin (off n : ℕ) (old new : List ℕ) : Type 0 where
@@ -63,4 +75,4 @@ pub record DifferWithin (off n : ℕ) (old new : List ℕ) : Type 0 where
 abbrev pub TearsWithin : Option Files → List ℕ → ℕ → ℕ → Option Files → Type 0
 TearsWithin None name off n new = new ≡ None
 TearsWithin (Some files) name off n new =
-    (new ≡ Some files) ⊎ ((whole torn : List ℕ) × (get files name ≡ Some whole) × DifferWithin off n whole torn × (new ≡ Some (insert files name torn)))
+    (new ≡ Some files) ⊎ ((torn : List ℕ) × DifferWithin off n (bytes_in files name) torn × (new ≡ Some (insert files name torn)))

@@ -3,14 +3,14 @@
 ghost use Rattle.std.specs.Prelude.{◌≡◌, ◌<◌, ◌≤◌, ◌+◌, ◌^◌, ◌↔◌, Ok, IfOk, IsTrue, length, take, drop};
 ghost use Rattle.std.specs.String.{string_bytes};
 ghost use Rattle.rio_base.specs.Failures.{HasCause, Rose};
-ghost use Rattle.rio_base.specs.Hosts.{EndsBy, HasBytes};
+ghost use Rattle.rio_base.specs.Hosts.{AsksFor, EndsBy, HasBytes};
 
 use crate::failures::Failed;
 use crate::host::Host;
 
 /// Reads bytes of a file from byte `off` on, until the room is full or the file ends, by as few calls as can be. Answers
-/// how many came. A file is asked for bytes even where there is no room, so that it is there after `Ok`. After `Failed`,
-/// for which a fault was counted, the room may have changed.
+/// how many came: none of a file that isn't there. After `Failed`, for which a fault was counted, the room may have
+/// changed.
 pub fn read_from<H: Host>(
     name: &String,
     off: u64,
@@ -23,6 +23,7 @@ pub fn read_from<H: Host>(
     ensures bound { IfOk result (λ n. n ≤ length into.new) }
     ensures bytes { IfOk result (λ n. HasBytes (H.files host.old) (string_bytes name.now) off (take n into.new)) }
     ensures end { IfOk result (λ n. n < length into.new → EndsBy (H.files host.old) (string_bytes name.now) (off + n)) }
+    ensures asked { AsksFor (string_bytes name.now) (H.asked host.old) (H.asked host.new) }
     ensures cause { HasCause result (H.faults host.old) (H.faults host.new) }
 {
     let mut done = 0;
@@ -55,6 +56,7 @@ fn read_piece<H: Host>(
     ensures bound { IfOk result (λ n. done + n ≤ length into.new) }
     ensures bytes { IfOk result (λ n. HasBytes (H.files host.old) (string_bytes name.now) (off + done) (take n (drop done into.new))) }
     ensures end { result ≡ Ok 0 → done < length into.new → EndsBy (H.files host.old) (string_bytes name.now) (off + done) }
+    ensures asked { AsksFor (string_bytes name.now) (H.asked host.old) (H.asked host.new) }
     ensures cause { HasCause result (H.faults host.old) (H.faults host.new) }
 {
     let before = host.faults();
