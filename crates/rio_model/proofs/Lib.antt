@@ -19,6 +19,7 @@ pub mod InDirectory
 pub mod LowestBlocks
 pub mod NameOrder
 pub mod NameRules
+pub mod NamedReading
 pub mod NamedRules
 pub mod NodeChangeRules
 pub mod NodeChanges

@@ -2,7 +2,7 @@
 use Rattle.std.specs.Prelude.{◌≡◌, ◌≢◌, ℕ, ◌-◌, ◌*◌, ◌<◌, ◌≤◌, ◌⊎◌, true, false, min, Option, None, Some}
 use Rattle.rio_base.specs.declared.places.PageName.{PageName}
 use Rattle.rio_base.specs.declared.places.VolumeShape.{VolumeShape}
-use Rattle.rio_base.specs.Blocks.{BlockWords, Seen}
+use Rattle.rio_base.specs.Blocks.{BlockWords, Seen, Looks}
 use Rattle.rio_base.specs.Layout.{IsIno}
 use Rattle.rio_base.specs.Shapes.{HasShape, reserved}
 use Rattle.rio_base.specs.Volume.{Kept}
@@ -29,6 +29,12 @@ NamedNode i n x = (s : Slot) → HasSlot n s → x.cached (n.block s) ≡ true �
 -- and so does each of every node
 pub record AllNamed (l : Layout) (x : Seen) : Type 0 where
   pub each : (i : ℕ) → IsIno l.shape i → NamedNode i (l.node i) x
+
+-- nothing reads otherwise, the volume still has this shape, and cached pages bear their names
+pub record LooksNamed (shape : VolumeShape) (x y : Seen) : Type 0 where
+  pub looks : Looks x y
+  pub has_shape : HasShape shape y
+  pub named : AllNamed (volume_layout shape x.words) y
 
 -- a block may be newly cached under this name: it is reserved, or some node has it so
 abbrev pub BearsOwn : Layout → ℕ → Option PageName → Type 0
