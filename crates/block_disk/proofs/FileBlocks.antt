@@ -7,12 +7,12 @@ use Rattle.std.proofs.lemmas.List.{ext_get_or, get_or_append_left, get_or-append
 use Rattle.byteorder.specs.Endian.{little_bytes}
 use Rattle.rio_base.specs.Bytes.{bytes_of}
 use Rattle.rio_base.specs.Disks.{block_at, blocks_of}
-use Rattle.rio_base.specs.Hosts.{Files, Overwrites, TearsWithin, overwritten}
+use Rattle.rio_base.specs.Hosts.{Files, Overwrites, TearsWithin, bytes_in, overwritten}
 use Rattle.rio_base.specs.Memory.{FrontStored, page_at}
 use Rattle.rio_base.proofs.Bytes.{length-bytes_of}
 use Rattle.rio_base.proofs.WordBlocks.{block_is, block_words, blocks_many}
-use Rattle.block_disk.specs.HostDisks.{FitsFile, HasBlock, file_bytes}
-use Rattle.block_disk.proofs.HostFiles.{get_put}
+use Rattle.block_disk.specs.HostDisks.{FitsFile, HasBlock}
+use Rattle.block_disk.proofs.HostFiles.{bytes_are, get_put}
 
 -- ---- bytes of words
 
@@ -155,14 +155,10 @@ some_files x y e = cc
 no_files : (x : Files) → None ≡ Some x → ⊥
 no_files x e = cc
 
--- the bytes of a file that is there
-bytes_are : (files : Files) (name whole : List ℕ) → get files name ≡ Some whole → file_bytes files name ≡ whole
-bytes_are files name whole at = ap (λ (got : Option (List ℕ)). unwrap_or got []) at
-
 -- the bytes of a file that was put there
-bytes_put : (files new : Files) (told : Option Files) (name bytes : List ℕ) → told ≡ Some new → told ≡ Some (insert files name bytes) → file_bytes new name ≡ bytes
+bytes_put : (files new : Files) (told : Option Files) (name bytes : List ℕ) → told ≡ Some new → told ≡ Some (insert files name bytes) → bytes_in new name ≡ bytes
 bytes_put files new told name bytes e is =
-    ap (λ (fs : Files). file_bytes fs name) (some_files new (insert files name bytes) (sym e ∙ is)) ∙ bytes_are (insert files name bytes) name bytes (get_put files name bytes)
+    ap (λ (fs : Files). bytes_in fs name) (some_files new (insert files name bytes) (sym e ∙ is)) ∙ bytes_are (insert files name bytes) name bytes (get_put files name bytes)
 
 put_there : (files new : Files) (told : Option Files) (name bytes : List ℕ) → told ≡ Some new → told ≡ Some (insert files name bytes) → is_some (get new name) ≡ true
 put_there files new told name bytes e is =
@@ -171,8 +167,9 @@ put_there files new told name bytes e is =
 -- a write of a block's bytes that went well
 pub written_fits : (told new : Option Files) (name words from : List ℕ) (b : ℕ) → length from ≡ 4096 → 512 * b + 512 ≤ length words → FitsFile told name words → Overwrites told name (4096 * b) from new → FitsFile new name words
 written_fits None new name words from b long within fits is = record { there = λ files e. absurd (no_files files (sym is ∙ e)); long = λ files e. absurd (no_files files (sym is ∙ e)) }
-written_fits (Some files) new name words from b long within fits (whole, at, is) =
-    let size : length whole ≡ 8 * length words = ap length (sym (bytes_are files name whole at)) ∙ fits.long files refl in
+written_fits (Some files) new name words from b long within fits is =
+    let whole : List ℕ = bytes_in files name in
+    let size : length whole ≡ 8 * length words = fits.long files refl in
     let put = over_stored whole from (4096 * b) (omega (arith, size, within, long)) in
     record {
       there = λ later e. put_there files later new name (overwritten whole (4096 * b) from) e is;
@@ -181,8 +178,9 @@ written_fits (Some files) new name words from b long within fits (whole, at, is)
 
 pub written_here : (told new : Option Files) (name words from : List ℕ) (b : ℕ) → from ≡ bytes_of (block_words words b) → 512 * b + 512 ≤ length words → FitsFile told name words → Overwrites told name (4096 * b) from new → HasBlock new name words b
 written_here None new name words from b own within fits is later e x less = absurd (no_files later (sym is ∙ e))
-written_here (Some files) new name words from b own within fits (whole, at, is) later e x less =
-    let size : length whole ≡ 8 * length words = ap length (sym (bytes_are files name whole at)) ∙ fits.long files refl in
+written_here (Some files) new name words from b own within fits is later e x less =
+    let whole : List ℕ = bytes_in files name in
+    let size : length whole ≡ 8 * length words = fits.long files refl in
     let words_long : length (block_words words b) ≡ 512 = length-take-le 512 (drop (512 * b) words) (omega (arith, length-drop (512 * b) words, within)) in
     let long : length from ≡ 4096 = ap length own ∙ length-bytes_of (block_words words b) ∙ ap (λ n. 8 * n) words_long in
     let put = over_stored whole from (4096 * b) (omega (arith, size, within, long)) in
@@ -193,15 +191,15 @@ written_here (Some files) new name words from b own within fits (whole, at, is) 
 
 pub written_others : (told new : Option Files) (name words from : List ℕ) (b c : ℕ) → length from ≡ 4096 → 512 * b + 512 ≤ length words → FitsFile told name words → Overwrites told name (4096 * b) from new → c ≢ b → HasBlock told name words c → HasBlock new name words c
 written_others None new name words from b c long within fits is ne has later e x less = absurd (no_files later (sym is ∙ e))
-written_others (Some files) new name words from b c long within fits (whole, at, is) ne has later e x less =
-    let size : length whole ≡ 8 * length words = ap length (sym (bytes_are files name whole at)) ∙ fits.long files refl in
+written_others (Some files) new name words from b c long within fits is ne has later e x less =
+    let whole : List ℕ = bytes_in files name in
+    let size : length whole ≡ 8 * length words = fits.long files refl in
     let put = over_stored whole from (4096 * b) (omega (arith, size, within, long)) in
     ap (λ (bytes : List ℕ). slice_index bytes (4096 * c + x)) (bytes_put files later new name (overwritten whole (4096 * b) from) e is)
     ∙ outside put (cases_lt c b)
-    ∙ ap (λ (bytes : List ℕ). slice_index bytes (4096 * c + x)) (sym (bytes_are files name whole at))
     ∙ has files refl x less
   where
-    outside : FrontStored (4096 * b) (length from) from whole (overwritten whole (4096 * b) from) → (c < b) ⊎ (b ≤ c) → slice_index (overwritten whole (4096 * b) from) (4096 * c + x) ≡ slice_index whole (4096 * c + x)
+    outside : FrontStored (4096 * b) (length from) from (bytes_in files name) (overwritten (bytes_in files name) (4096 * b) from) → (c < b) ⊎ (b ≤ c) → slice_index (overwritten (bytes_in files name) (4096 * b) from) (4096 * c + x) ≡ slice_index (bytes_in files name) (4096 * c + x)
     outside put (inl before) = put.below (4096 * c + x) (omega (arith, before, less))
     outside put (inr after) = put.above (4096 * c + x) (omega (arith, after, ne, less, long))
 
@@ -209,8 +207,8 @@ written_others (Some files) new name words from b c long within fits (whole, at,
 pub torn_fits : (told new : Option Files) (name words : List ℕ) (b : ℕ) → 512 * b + 512 ≤ length words → FitsFile told name words → TearsWithin told name (4096 * b) 4096 new → FitsFile new name words
 torn_fits None new name words b within fits is = record { there = λ files e. absurd (no_files files (sym is ∙ e)); long = λ files e. absurd (no_files files (sym is ∙ e)) }
 torn_fits (Some files) new name words b within fits (inl is) = subst (λ (t : Option Files). FitsFile t name words) (sym is) fits
-torn_fits (Some files) new name words b within fits (inr (whole, torn, at, differ, is)) =
-    let size : length whole ≡ 8 * length words = ap length (sym (bytes_are files name whole at)) ∙ fits.long files refl in
+torn_fits (Some files) new name words b within fits (inr (torn, differ, is)) =
+    let size : length (bytes_in files name) ≡ 8 * length words = fits.long files refl in
     record {
       there = λ later e. put_there files later new name torn e is;
       long = λ later e. ap length (bytes_put files later new name torn e is) ∙ (let same : length torn ≡ 8 * length words = omega (arith, differ.least, differ.most, size, within) in same);
@@ -219,13 +217,12 @@ torn_fits (Some files) new name words b within fits (inr (whole, torn, at, diffe
 pub torn_others : (told new : Option Files) (name words : List ℕ) (b c : ℕ) → TearsWithin told name (4096 * b) 4096 new → c ≢ b → HasBlock told name words c → HasBlock new name words c
 torn_others None new name words b c is ne has later e x less = absurd (no_files later (sym is ∙ e))
 torn_others (Some files) new name words b c (inl is) ne has later e x less = subst (λ (t : Option Files). HasBlock t name words c) (sym is) has later e x less
-torn_others (Some files) new name words b c (inr (whole, torn, at, differ, is)) ne has later e x less =
+torn_others (Some files) new name words b c (inr (torn, differ, is)) ne has later e x less =
     ap (λ (bytes : List ℕ). slice_index bytes (4096 * c + x)) (bytes_put files later new name torn e is)
     ∙ outside (cases_lt c b)
-    ∙ ap (λ (bytes : List ℕ). slice_index bytes (4096 * c + x)) (sym (bytes_are files name whole at))
     ∙ has files refl x less
   where
-    outside : (c < b) ⊎ (b ≤ c) → slice_index torn (4096 * c + x) ≡ slice_index whole (4096 * c + x)
+    outside : (c < b) ⊎ (b ≤ c) → slice_index torn (4096 * c + x) ≡ slice_index (bytes_in files name) (4096 * c + x)
     outside (inl before) = differ.before (4096 * c + x) (omega (arith, before, less))
     outside (inr after) = differ.after (4096 * c + x) (omega (arith, after, ne, less))
 

@@ -6,14 +6,15 @@ use Rattle.std.proofs.lemmas.List.{ext_get_or, get_or_past, get_or-replicate, le
 use Rattle.rio_base.specs.Blocks.{Around}
 use Rattle.rio_base.specs.Bytes.{bytes_of}
 use Rattle.rio_base.specs.Disks.{DiskContents, FaultCount, FaultsLast, HasFaultCause, block_at, blocks_of, is_pending, raised, with_synced, with_written}
-use Rattle.rio_base.specs.Hosts.{Files, IsFile}
+use Rattle.rio_base.specs.Hosts.{Asked, AsksFor, Files, IsFile, bytes_in}
 use Rattle.rio_base.specs.Memory.{FrontStored}
 use Rattle.rio_base.specs.Rules.{true_false}
 use Rattle.rio_base.proofs.Bytes.{length-bytes_of}
 use Rattle.rio_base.proofs.WordBlocks.{block_is, block_long, block_words, blocks_many, blocks_word}
 use Rattle.block_disk.specs.BlockLists.{Lists}
-use Rattle.block_disk.specs.HostDisks.{AreFileWords, FitsFile, HasBlock, HasSettled, IsDiskLength, OnHost, around_of, file_bytes, file_contents}
+use Rattle.block_disk.specs.HostDisks.{AreFileWords, FitsFile, HasBlock, HasSettled, IsDiskLength, OnHost, around_of, file_contents}
 use Rattle.block_disk.proofs.FileBlocks.{block_bytes, blocks_changed, others_changed}
+use Rattle.block_disk.proofs.HostFiles.{around_asked}
 use Rattle.block_disk.proofs.Marks.{found, listed}
 
 -- a mark that isn't set after one was set is of another block, and was not set before
@@ -136,8 +137,8 @@ written_all told name words marks numbers i first lists all = record { fits = fi
 
 -- ---- what is handed out
 
-pub settled : (told : Option Files) (faults writes : ℕ) (name words : List ℕ) (unwritten pending : List Bool) → OnHost told name words unwritten → 512 * length pending ≡ length words → ((b : ℕ) → is_pending unwritten b ≡ true → is_pending pending b ≡ true) → HasSettled told name (file_contents told faults name words pending writes)
-settled told faults writes name words unwritten pending kept whole held = record {
+pub settled : (told : Option Files) (asked : Asked) (faults writes : ℕ) (name words : List ℕ) (unwritten pending : List Bool) → OnHost told name words unwritten → 512 * length pending ≡ length words → ((b : ℕ) → is_pending unwritten b ≡ true → is_pending pending b ≡ true) → HasSettled told name (file_contents told asked faults name words pending writes)
+settled told asked faults writes name words unwritten pending kept whole held = record {
   there = kept.fits.there;
   long = λ files e. kept.fits.long files e ∙ (let count : 8 * length words ≡ 4096 * length (blocks_of words) = omega (arith, blocks_many words, whole) in count);
   settled = λ files e b less clear. at files e b (omega (arith, less, blocks_many words)) (clear_of b clear (cases_Bool (is_pending unwritten b)));
@@ -147,10 +148,10 @@ settled told faults writes name words unwritten pending kept whole held = record
     clear_of b clear (inl e) = absurd (true_false (sym (held b e) ∙ clear))
     clear_of b clear (inr e) = e
 
-    at : (files : Files) → told ≡ Some files → (b : ℕ) → b < length words / 512 → is_pending unwritten b ≡ false → take 4096 (drop (4096 * b) (file_bytes files name)) ≡ bytes_of (block_at (blocks_of words) b)
+    at : (files : Files) → told ≡ Some files → (b : ℕ) → b < length words / 512 → is_pending unwritten b ≡ false → take 4096 (drop (4096 * b) (bytes_in files name)) ≡ bytes_of (block_at (blocks_of words) b)
     at files e b less clear =
         let within : 512 * b + 512 ≤ length words = omega (arith, less) in
-        let bytes : List ℕ = file_bytes files name in
+        let bytes : List ℕ = bytes_in files name in
         let size : length bytes ≡ 8 * length words = kept.fits.long files e in
         let long : length (take 4096 (drop (4096 * b) bytes)) ≡ 4096 = length-take-le 4096 (drop (4096 * b) bytes) (omega (arith, length-drop (4096 * b) bytes, size, within)) in
         let own : length (block_words words b) ≡ 512 = length-take-le 512 (drop (512 * b) words) (omega (arith, length-drop (512 * b) words, within)) in
@@ -190,30 +191,30 @@ none_failed n = record { last = none_lower n n (le_refl n); cause = tt }
 -- ---- the disk after a call
 
 -- a block was written
-pub contents_written : (told new : Option Files) (faults writes later : ℕ) (name from old words : List ℕ) (pending marks : List Bool) (b : ℕ) → around_of new name ≡ around_of told name → FrontStored (512 * b) 512 from old words → length from ≡ 512 → 512 * b + 512 ≤ length old → marks ≡ set pending b true → later ≡ raised writes 1 → (n : ℕ) → file_contents new n name words marks later ≡ with_written (file_contents told faults name old pending writes) b from (no_limit n)
-contents_written told new faults writes later name from old words pending marks b around put long within marked counted n =
+pub contents_written : (told new : Option Files) (old_asked asked : Asked) (faults writes later : ℕ) (name from old words : List ℕ) (pending marks : List Bool) (b : ℕ) → around_of new asked name ≡ around_of told old_asked name → FrontStored (512 * b) 512 from old words → length from ≡ 512 → 512 * b + 512 ≤ length old → marks ≡ set pending b true → later ≡ raised writes 1 → (n : ℕ) → file_contents new asked n name words marks later ≡ with_written (file_contents told old_asked faults name old pending writes) b from (no_limit n)
+contents_written told new old_asked asked faults writes later name from old words pending marks b around put long within marked counted n =
     built (blocks_changed from old words b put long within) marked counted around
   where
     built : {x y : List (List ℕ)} {p q : List Bool} {w v : ℕ} {a c : Option Around} → x ≡ y → p ≡ q → w ≡ v → a ≡ c → ◌≡◌ {A = DiskContents} (record { blocks = x; pending = p; faults = no_limit n; writes = w; around = a }) (record { blocks = y; pending = q; faults = no_limit n; writes = v; around = c })
     built e f g h i = record { blocks = e i; pending = f i; faults = no_limit n; writes = g i; around = h i }
 
 -- all was brought to the file, or the file changed and nothing else did
-pub contents_kept : (told new : Option Files) (faults writes : ℕ) (name words : List ℕ) (pending marks : List Bool) → around_of new name ≡ around_of told name → marks ≡ pending → (n : ℕ) → file_contents new n name words marks writes ≡ record (file_contents told faults name words pending writes) { faults = no_limit n }
-contents_kept told new faults writes name words pending marks around marked n = built marked around
+pub contents_kept : (told new : Option Files) (old_asked asked : Asked) (faults writes : ℕ) (name words : List ℕ) (pending marks : List Bool) → around_of new asked name ≡ around_of told old_asked name → marks ≡ pending → (n : ℕ) → file_contents new asked n name words marks writes ≡ record (file_contents told old_asked faults name words pending writes) { faults = no_limit n }
+contents_kept told new old_asked asked faults writes name words pending marks around marked n = built marked around
   where
     built : {p q : List Bool} {a c : Option Around} → p ≡ q → a ≡ c → ◌≡◌ {A = DiskContents} (record { blocks = blocks_of words; pending = p; faults = no_limit n; writes = writes; around = a }) (record { blocks = blocks_of words; pending = q; faults = no_limit n; writes = writes; around = c })
     built f h i = record { blocks = blocks_of words; pending = f i; faults = no_limit n; writes = writes; around = h i }
 
-pub contents_synced : (told new : Option Files) (faults writes : ℕ) (name words : List ℕ) (pending marks : List Bool) → around_of new name ≡ around_of told name → length pending ≡ length (blocks_of words) → marks ≡ replicate (length pending) false → (n : ℕ) → file_contents new n name words marks writes ≡ with_synced (file_contents told faults name words pending writes) (no_limit n)
-contents_synced told new faults writes name words pending marks around count clear n = contents_kept told new faults writes name words (replicate (length (blocks_of words)) false) marks around (clear ∙ ap (λ k. replicate k false) count) n
+pub contents_synced : (told new : Option Files) (old_asked asked : Asked) (faults writes : ℕ) (name words : List ℕ) (pending marks : List Bool) → around_of new asked name ≡ around_of told old_asked name → length pending ≡ length (blocks_of words) → marks ≡ replicate (length pending) false → (n : ℕ) → file_contents new asked n name words marks writes ≡ with_synced (file_contents told old_asked faults name words pending writes) (no_limit n)
+contents_synced told new old_asked asked faults writes name words pending marks around count clear n = contents_kept told new old_asked asked faults writes name words (replicate (length (blocks_of words)) false) marks around (clear ∙ ap (λ k. replicate k false) count) n
 
 -- ---- a disk that was made
 
 pub fresh_kept : (told new : Option Files) (name words : List ℕ) (marks : List Bool) → new ≡ told → AreFileWords told name words → OnHost new name words marks
 fresh_kept told new name words marks same read = subst (λ (t : Option Files). OnHost t name words marks) (sym same) (whole_kept told name words marks read.bytes)
 
-pub contents_fresh : (told new : Option Files) (name words : List ℕ) (marks : List Bool) → new ≡ told → marks ≡ replicate (length words / 512) false → (n : ℕ) → file_contents new n name words marks 0 ≡ file_contents told n name words (replicate (length (blocks_of words)) false) 0
-contents_fresh told new name words marks same clear n = contents_kept told new n 0 name words (replicate (length (blocks_of words)) false) marks (ap (λ (t : Option Files). around_of t name) same) (clear ∙ ap (λ k. replicate k false) (sym (blocks_many words))) n
+pub contents_fresh : (told new : Option Files) (old_asked asked : Asked) (name words : List ℕ) (marks : List Bool) → new ≡ told → AsksFor name old_asked asked → marks ≡ replicate (length words / 512) false → (n : ℕ) → file_contents new asked n name words marks 0 ≡ file_contents told old_asked n name words (replicate (length (blocks_of words)) false) 0
+contents_fresh told new old_asked asked name words marks same asks clear n = contents_kept told new old_asked asked n 0 name words (replicate (length (blocks_of words)) false) marks (around_asked told new old_asked asked name same asks) (clear ∙ ap (λ k. replicate k false) (sym (blocks_many words))) n
 
 pub fresh_marks : (words : List ℕ) (marks : List Bool) → IsDiskLength (8 * length words) → marks ≡ replicate (length words / 512) false → 512 * length marks ≡ length words
 fresh_marks words marks long clear = omega (arith, long.whole, ap length clear, length-replicate (length words / 512) false)

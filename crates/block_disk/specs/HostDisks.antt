@@ -1,10 +1,10 @@
 -- A disk that is a file of a host: what the file holds, and why there is no disk.
-use Rattle.std.specs.Prelude.{◌≡◌, ◌<◌, ◌≤◌, ℕ, ◌+◌, ◌*◌, ◌/◌, ◌%◌, ◌^◌, Bool, false, true, List, [], length, take, drop, slice_index, Option, Some, None, is_some, unwrap_or}
+use Rattle.std.specs.Prelude.{◌≡◌, ◌<◌, ◌≤◌, ℕ, ◌+◌, ◌*◌, ◌/◌, ◌%◌, ◌^◌, Bool, false, true, List, [], length, take, drop, slice_index, Option, Some, None, is_some}
 use Rattle.std.specs.FinMap.{get, remove}
 use Rattle.rio_base.specs.Blocks.{Around}
 use Rattle.rio_base.specs.Bytes.{bytes_of}
 use Rattle.rio_base.specs.Disks.{DiskContents, block_at, blocks_of, is_pending}
-use Rattle.rio_base.specs.Hosts.{Files, HasSize, IsFile}
+use Rattle.rio_base.specs.Hosts.{Asked, Files, HasSize, IsFile, bytes_in}
 use Rattle.rio_base.proofs.WordBlocks.{block_is, block_long, blocks_many}
 use Rattle.std.proofs.Common.{arith, ap, ◌∙◌}
 use Rattle.block_disk.specs.declared.host_disk_fail.HostDiskFail.{HostDiskFail}
@@ -44,18 +44,14 @@ IsLong (Some files) name n = (whole : List ℕ) × (get files name ≡ Some whol
 
 -- ---- what the file holds, where the host tells its files
 
--- the bytes of a file, none where it is not there
-abbrev pub file_bytes : Files → List ℕ → List ℕ
-file_bytes files name = unwrap_or (get files name) []
-
 -- the file is there, and has 8 bytes for each word
 pub record FitsFile (told : Option Files) (name words : List ℕ) : Type 0 where
   pub there : (files : Files) → told ≡ Some files → is_some (get files name) ≡ true
-  pub long : (files : Files) → told ≡ Some files → length (file_bytes files name) ≡ 8 * length words
+  pub long : (files : Files) → told ≡ Some files → length (bytes_in files name) ≡ 8 * length words
 
 -- the bytes of block b of the file are those of block b of the words
 abbrev pub HasBlock : Option Files → List ℕ → List ℕ → ℕ → Type 0
-HasBlock told name words b = (files : Files) → told ≡ Some files → (x : ℕ) → x < 4096 → slice_index (file_bytes files name) (4096 * b + x) ≡ slice_index (bytes_of words) (4096 * b + x)
+HasBlock told name words b = (files : Files) → told ≡ Some files → (x : ℕ) → x < 4096 → slice_index (bytes_in files name) (4096 * b + x) ≡ slice_index (bytes_of words) (4096 * b + x)
 
 -- the file has each block but those that are marked as unwritten
 pub record OnHost (told : Option Files) (name words : List ℕ) (unwritten : List Bool) : Type 0 where
@@ -65,18 +61,18 @@ pub record OnHost (told : Option Files) (name words : List ℕ) (unwritten : Lis
 -- the file has the bytes of each block that isn't pending, and is as long as all of them
 pub record HasSettled (told : Option Files) (name : List ℕ) (d : DiskContents) : Type 0 where
   pub there : (files : Files) → told ≡ Some files → is_some (get files name) ≡ true
-  pub long : (files : Files) → told ≡ Some files → length (file_bytes files name) ≡ 4096 * length d.blocks
-  pub settled : (files : Files) → told ≡ Some files → (b : ℕ) → b < length d.blocks → is_pending d.pending b ≡ false → take 4096 (drop (4096 * b) (file_bytes files name)) ≡ bytes_of (block_at d.blocks b)
+  pub long : (files : Files) → told ≡ Some files → length (bytes_in files name) ≡ 4096 * length d.blocks
+  pub settled : (files : Files) → told ≡ Some files → (b : ℕ) → b < length d.blocks → is_pending d.pending b ≡ false → take 4096 (drop (4096 * b) (bytes_in files name)) ≡ bytes_of (block_at d.blocks b)
 
 -- ---- what every disk has
 
--- what is beside the blocks: the file's name and the other files
-abbrev pub around_of : Option Files → List ℕ → Option Around
-around_of None name = None
-around_of (Some files) name = Some (record { file = name; others = get (remove files name) })
+-- what is beside the blocks: the file's name, the other files, and how often these were asked for
+abbrev pub around_of : Option Files → Asked → List ℕ → Option Around
+around_of None asked name = None
+around_of (Some files) asked name = Some (record { file = name; others = get (remove files name); asked = remove asked name })
 
-abbrev pub file_contents : Option Files → ℕ → List ℕ → List ℕ → List Bool → ℕ → DiskContents
-file_contents told faults name words pending writes = record { blocks = blocks_of words; pending = pending; faults = record { count = faults; limit = None }; writes = writes; around = around_of told name }
+abbrev pub file_contents : Option Files → Asked → ℕ → List ℕ → List ℕ → List Bool → ℕ → DiskContents
+file_contents told asked faults name words pending writes = record { blocks = blocks_of words; pending = pending; faults = record { count = faults; limit = None }; writes = writes; around = around_of told asked name }
 
 -- no bound on the faults is told
 pub limit_none : (faults most : ℕ) → None ≡ Some most → faults ≤ most

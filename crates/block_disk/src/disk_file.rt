@@ -4,7 +4,7 @@ ghost use Rattle.std.specs.Prelude.{◌≡◌, ◌≢◌, ◌<◌, ◌≤◌, �
 ghost use Rattle.std.specs.String.{string_bytes};
 ghost use Rattle.rio_base.specs.Bytes.{bytes_of};
 ghost use Rattle.rio_base.specs.Failures.{HasCause, Rose};
-ghost use Rattle.rio_base.specs.Hosts.{HasBytes, HasSize, IsFile};
+ghost use Rattle.rio_base.specs.Hosts.{AsksFor, HasBytes, HasSize, IsFile};
 ghost use Rattle.rio_base.specs.Memory.{page_at};
 ghost use Rattle.block_disk.specs.HostDisks.{AreFileWords, FailsAs, FitsFile, HasBlock, IsDiskLength, IsLong, OnHost, around_of};
 
@@ -34,6 +34,7 @@ pub fn count_words<H: Host>(name: &String, host: &mut H) -> Result<usize, HostDi
     ensures size { IfOk result (λ n. HasSize (H.files host.old) (string_bytes name.now) (Some (8 * n))) }
     ensures long { IfOk result (λ n. IsDiskLength (8 * n)) }
     ensures fails { IfErr result (λ fail. FailsAs fail (H.files host.old) (string_bytes name.now) (Rose (H.faults host.old) (H.faults host.new))) }
+    ensures asked { AsksFor (string_bytes name.now) (H.asked host.old) (H.asked host.new) }
     ensures later { H.faults host.old ≤ H.faults host.new }
 {
     match host.size(name) {
@@ -69,6 +70,7 @@ pub fn read_words<H: Host>(
     ensures words { IfOk result (λ words. AreFileWords (H.files host.old) (string_bytes name.now) words.items) }
     ensures count { IfOk result (λ words. length words.items ≡ count) }
     ensures fails { IfErr result (λ fail. FailsAs fail (H.files host.old) (string_bytes name.now) (Rose (H.faults host.old) (H.faults host.new))) }
+    ensures asked { AsksFor (string_bytes name.now) (H.asked host.old) (H.asked host.new) }
     ensures later { H.faults host.old ≤ H.faults host.new }
 {
     let Ok((mut words, mut room)) = rooms(alloc, count) else {
@@ -94,6 +96,7 @@ fn read_pieces<H: Host>(
     ensures bytes { OnOk result (IsFile (H.files host.old) (string_bytes name.now) (bytes_of words.new)) }
     ensures count { length words.new ≡ length words.old }
     ensures fails { IfErr result (λ fail. FailsAs fail (H.files host.old) (string_bytes name.now) (Rose (H.faults host.old) (H.faults host.new))) }
+    ensures asked { AsksFor (string_bytes name.now) (H.asked host.old) (H.asked host.new) }
     ensures later { H.faults host.old ≤ H.faults host.new }
 {
     let mut done = 0;
@@ -141,6 +144,7 @@ fn read_piece<H: Host>(
     ensures count { length words.new ≡ length words.old }
     ensures room { length room.new ≡ length room.old }
     ensures fails { IfErr result (λ fail. FailsAs fail (H.files host.old) (string_bytes name.now) (Rose (H.faults host.old) (H.faults host.new))) }
+    ensures asked { AsksFor (string_bytes name.now) (H.asked host.old) (H.asked host.new) }
     ensures later { H.faults host.old ≤ H.faults host.new }
 {
     fill_piece(name, 8 * done as u64, room, host)?;
@@ -162,6 +166,7 @@ fn fill_piece<H: Host>(
     ensures bytes { OnOk result (HasBytes (H.files host.old) (string_bytes name.now) off into.new) }
     ensures room { length into.new ≡ length into.old }
     ensures fails { IfErr result (λ fail. FailsAs fail (H.files host.old) (string_bytes name.now) (Rose (H.faults host.old) (H.faults host.new))) }
+    ensures asked { AsksFor (string_bytes name.now) (H.asked host.old) (H.asked host.new) }
     ensures later { H.faults host.old ≤ H.faults host.new }
 {
     match read_from(name, off, into, host) {
@@ -201,7 +206,7 @@ pub fn write_block<H: Host>(
     ensures fits { FitsFile (H.files host.new) (string_bytes name.now) words.now }
     ensures here { OnOk result (HasBlock (H.files host.new) (string_bytes name.now) words.now b) }
     ensures others { (c : ℕ) → c ≢ b → HasBlock (H.files host.old) (string_bytes name.now) words.now c → HasBlock (H.files host.new) (string_bytes name.now) words.now c }
-    ensures around { around_of (H.files host.new) (string_bytes name.now) ≡ around_of (H.files host.old) (string_bytes name.now) }
+    ensures around { around_of (H.files host.new) (H.asked host.new) (string_bytes name.now) ≡ around_of (H.files host.old) (H.asked host.old) (string_bytes name.now) }
     ensures cause { HasCause result (H.faults host.old) (H.faults host.new) }
 {
     fill_room(words, b, room);
@@ -237,7 +242,7 @@ pub fn write_marked<H: Host>(
     ensures room { length room.new ≡ 4096 }
     ensures file { OnHost (H.files host.new) (string_bytes name.now) words.now marked.now.marks.items }
     ensures all { OnOk result (OnHost (H.files host.new) (string_bytes name.now) words.now []) }
-    ensures around { around_of (H.files host.new) (string_bytes name.now) ≡ around_of (H.files host.old) (string_bytes name.now) }
+    ensures around { around_of (H.files host.new) (H.asked host.new) (string_bytes name.now) ≡ around_of (H.files host.old) (H.asked host.old) (string_bytes name.now) }
     ensures cause { HasCause result (H.faults host.old) (H.faults host.new) }
 {
     let numbers = marked.numbers();

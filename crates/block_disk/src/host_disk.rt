@@ -3,6 +3,7 @@
 ghost use Rattle.std.specs.Prelude.{◌≡◌, ◌<◌, ◌≤◌, ◌*◌, ◌+◌, ◌/◌, ◌^◌, ℕ, true, false, List, IsOk, IfOk, IfErr, OnOk, length, replicate, slice_index};
 ghost use Rattle.std.specs.String.{string_bytes};
 ghost use Rattle.rio_base.specs.Failures.{Rose};
+ghost use Rattle.rio_base.specs.Hosts.{AsksFor};
 ghost use Rattle.rio_base.specs.Disks.{HasFaultCause, block_at, blocks_of, is_pending};
 ghost use Rattle.rio_base.specs.Memory.{FrontStored, page_at};
 ghost use Rattle.block_disk.specs.HostDisks.{AreFileWords, FailsAs, HasSettled, IsDiskLength, OnHost, around_of, file_contents};
@@ -84,6 +85,7 @@ fn read_parts<H: Host>(
     ensures unwritten { IfOk result (λ parts. parts.marks.unwritten.marks.items ≡ replicate (length parts.words.items / 512) false) }
     ensures room { IfOk result (λ parts. length parts.marks.room.items ≡ 4096) }
     ensures fails { IfErr result (λ fail. FailsAs fail (H.files host.old) (string_bytes name.now) (Rose (H.faults host.old) (H.faults host.new))) }
+    ensures asked { AsksFor (string_bytes name.now) (H.asked host.old) (H.asked host.new) }
     ensures later { H.faults host.old ≤ H.faults host.new }
 {
     let count = count_words(name, host)?;
@@ -131,10 +133,11 @@ impl<H: Host> HostDisk<H> {
     /// an error the host is given back, and its files are as before.
     #[tactic(auto, using(crate::proofs::HostDiskRules::fresh_kept, crate::proofs::HostDiskRules::fresh_marks, crate::proofs::HostDiskRules::same_marks, crate::proofs::HostDiskRules::none_unwritten))]
     pub fn new(alloc: Global, host: H, name: String) -> Result<HostDisk<H>, (H, HostDiskFail)>
-        ensures disk { IfOk result (λ d. (words : List ℕ) × AreFileWords (H.files host) (string_bytes name) words × (⟦<HostDisk<H> as DiskBlocks>⟧.contents d ≡ file_contents (H.files host) (H.faults d.host) (string_bytes name) words (replicate (length (blocks_of words)) false) 0)) }
+        ensures disk { IfOk result (λ d. (words : List ℕ) × AreFileWords (H.files host) (string_bytes name) words × (⟦<HostDisk<H> as DiskBlocks>⟧.contents d ≡ file_contents (H.files host) (H.asked host) (H.faults d.host) (string_bytes name) words (replicate (length (blocks_of words)) false) 0)) }
         ensures later { IfOk result (λ d. H.faults host ≤ H.faults d.host) }
         ensures fails { IfErr result (λ e. FailsAs e.1 (H.files host) (string_bytes name) (Rose (H.faults host) (H.faults e.0))) }
         ensures back { IfErr result (λ e. (H.files e.0 ≡ H.files host) × (H.faults host ≤ H.faults e.0)) }
+        ensures asked { IfErr result (λ e. AsksFor (string_bytes name) (H.asked host) (H.asked e.0)) }
     {
         let mut host = host;
         match read_parts(alloc, &name, &mut host) {
@@ -155,7 +158,7 @@ impl<H: Host> HostDisk<H> {
     pub fn into_host(self) -> H
         ensures file { HasSettled (H.files result) (string_bytes self.name) (⟦<HostDisk<H> as DiskBlocks>⟧.contents self) }
         ensures fit { (b w : ℕ) → slice_index (block_at (⟦<HostDisk<H> as DiskBlocks>⟧.contents self).blocks b) w < 2 ^ 64 }
-        ensures around { around_of (H.files result) (string_bytes self.name) ≡ (⟦<HostDisk<H> as DiskBlocks>⟧.contents self).around }
+        ensures around { around_of (H.files result) (H.asked result) (string_bytes self.name) ≡ (⟦<HostDisk<H> as DiskBlocks>⟧.contents self).around }
         ensures faults { H.faults result ≡ (⟦<HostDisk<H> as DiskBlocks>⟧.contents self).faults.count }
     {
         words_fit(&self.words);
@@ -191,7 +194,7 @@ impl<H: Host> DiskBlocks for HostDisk<H> {
     ghost use Rattle.block_disk.specs.HostDisks.{count_marks, few_blocks, file_contents, limit_none, whole_blocks};
     ghost use Rattle.std.specs.String.{string_bytes};
 
-    ghost contents = { λ d. file_contents (H.files d.host) (H.faults d.host) (string_bytes d.name) d.words.items d.pending.marks.items d.writes };
+    ghost contents = { λ d. file_contents (H.files d.host) (H.asked d.host) (H.faults d.host) (string_bytes d.name) d.words.items d.pending.marks.items d.writes };
 
     fn count(&self) -> u32 {
         (self.words.len() / BLOCK_WORDS) as u32

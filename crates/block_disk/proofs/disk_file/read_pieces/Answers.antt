@@ -6,7 +6,7 @@ use Rattle.block_disk.proofs.HostFiles.{long_enough}
 use Rattle.block_disk.proofs.disk_file.read_pieces.Goals as goal
 
 pub pieces-init : goal.pieces-init
-pieces-init g c = record { kept = refl; front = front_none _ _ _; count = refl; within = omega arith; room = refl; later = le_refl _ }
+pieces-init g c = record { kept = refl; asks = refl; front = front_none _ _ _; count = refl; within = omega arith; room = refl; later = le_refl _ }
 
 pub read_piece-requires-clause-file : goal.read_piece-requires-clause-file
 read_piece-requires-clause-file g c = long_enough _ _ _ _ (same_size _ _ _ _ c.pieces.invariant.kept c.requires.size) (omega (arith, c.pieces.invariant.count))
@@ -33,3 +33,6 @@ returns-in_err-read_piece-clause-later g c = le_trans c.pieces.invariant.later c
 
 pub returns-clause-bytes : goal.returns-clause-bytes
 returns-clause-bytes g c = front_all _ _ _ _ _ c.requires.size c.pieces.invariant.count (omega (arith, c.pieces.invariant.within, c.pieces.invariant.count, c.pieces-test.false)) c.pieces.invariant.front
+
+pub returns-in_err-read_piece-clause-asked : goal.returns-in_err-read_piece-clause-asked
+returns-in_err-read_piece-clause-asked g c = c.read_piece.ensures.asked ∙ c.pieces.invariant.asks

@@ -1,14 +1,17 @@
 use Rattle.std.proofs.Common.{◌≡◌, ◌≤◌, ◌-◌, length}
 use Rattle.std.specs.String.{string_bytes}
+use Rattle.rio_base.specs.Hosts.{AsksFor}
 use Rattle.block_disk.proofs.FileReads.{HasFront}
 use Rattle.block_disk.proofs.disk_file.read_pieces.Given as goal
 
 abbrev pub invariant-pieces : goal.invariant-pieces
 invariant-pieces g l =
     let files = g.H.Host.files in
+    let asked = g.H.Host.asked in
     let faults = g.H.Host.faults in
     record {
       kept : files l.host ≡ files l.fn.host;
+      asks : AsksFor (string_bytes l.fn.name) (asked l.fn.host) (asked l.host);
       front : HasFront (files l.fn.host) (string_bytes l.fn.name) l.words l.done;
       count : length l.words ≡ length l.fn.words;
       within : l.done ≤ length l.words;

@@ -14,7 +14,7 @@ pub returns-in_err-write_at-clause-others : goal.returns-in_err-write_at-clause-
 returns-in_err-write_at-clause-others g c = λ d ne has. torn_others _ _ _ _ c.args.b d (rw c.fill_room.ensures.room at c.in_err-write_at.ensures.err) ne has
 
 pub returns-in_err-write_at-clause-around : goal.returns-in_err-write_at-clause-around
-returns-in_err-write_at-clause-around g c = around_torn _ _ _ _ _ c.in_err-write_at.ensures.err
+returns-in_err-write_at-clause-around g c = around_torn _ _ _ _ _ _ _ c.in_err-write_at.ensures.err c.write_at.ensures.asked
 
 pub returns-in_err-write_at-clause-cause : goal.returns-in_err-write_at-clause-cause
 returns-in_err-write_at-clause-cause g c = failed_on c.from_residual.result _ _ _ c.from_residual.ensures.0 (le_refl _) c.in_err-write_at.ensures.cause.later c.in_err-write_at.ensures.cause.cause
@@ -29,7 +29,7 @@ pub returns-clause-others : goal.returns-clause-others
 returns-clause-others g c = λ d ne has. written_others _ _ _ _ _ c.args.b d c.fill_room.ensures.room c.requires.block c.requires.fits c.in_ok-write_at.ensures.ok ne has
 
 pub returns-clause-around : goal.returns-clause-around
-returns-clause-around g c = around_written _ _ _ _ _ c.in_ok-write_at.ensures.ok
+returns-clause-around g c = around_written _ _ _ _ _ _ _ c.in_ok-write_at.ensures.ok c.write_at.ensures.asked
 
 pub returns-clause-cause : goal.returns-clause-cause
 returns-clause-cause g c = record { later = c.in_ok-write_at.ensures.cause.later; cause = tt }

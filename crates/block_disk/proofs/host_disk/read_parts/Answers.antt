@@ -73,3 +73,9 @@ returns-clause-unwritten g c = c.in-Ok.ensures.unwritten ∙ ap (λ (n : ℕ). r
 
 pub returns-clause-count : goal.returns-clause-count
 returns-clause-count g c = sym (fresh_marks _ _ c.in_ok-words.ensures.words.long (c.in-Ok.ensures.pending ∙ ap (λ (n : ℕ). replicate (n / 512) false) (sym c.in_ok-words.ensures.count)))
+
+pub returns-in_err-words-clause-asked : goal.returns-in_err-words-clause-asked
+returns-in_err-words-clause-asked g c = c.read_words.ensures.asked ∙ c.count_words.ensures.asked
+
+pub returns-clause-asked : goal.returns-clause-asked
+returns-clause-asked g c = c.read_words.ensures.asked ∙ c.count_words.ensures.asked

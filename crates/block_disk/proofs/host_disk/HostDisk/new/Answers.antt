@@ -14,4 +14,4 @@ invariant_of-result g c =
     }
 
 pub returns-in-Ok-clause-disk : goal.returns-in-Ok-clause-disk
-returns-in-Ok-clause-disk g c = (c.in-Ok.field-0.words.items, c.in-Ok.ensures.words, contents_fresh _ _ _ _ _ c.in-Ok.ensures.files c.in-Ok.ensures.pending _)
+returns-in-Ok-clause-disk g c = (c.in-Ok.field-0.words.items, c.in-Ok.ensures.words, contents_fresh _ _ _ _ _ _ _ c.in-Ok.ensures.files c.in-Ok.ensures.asked c.in-Ok.ensures.pending _)

@@ -1,16 +1,15 @@
 use Rattle.std.proofs.Common.{◌≡◌, ℕ, ◌*◌, Option, length, refl, sym, ap, ◌∙◌, arith, le_refl}
 use Rattle.std.proofs.lemmas.List.{length-replicate, with_items_is}
-use Rattle.std.specs.String.{string_bytes}
-use Rattle.rio_base.specs.Hosts.{Files}
-use Rattle.block_disk.specs.HostDisks.{around_of, count_marks}
+use Rattle.block_disk.specs.HostDisks.{count_marks}
 use Rattle.block_disk.proofs.Ends.{disk_failed, disk_went, none_owed, owed}
+use Rattle.block_disk.proofs.HostFiles.{around_asked}
 use Rattle.block_disk.proofs.HostDiskRules.{all_kept, contents_kept, contents_synced, given_kept, lent_kept, none_unwritten}
 use Rattle.block_disk.proofs.host_disk.HostDiskDiskBlocks.sync.Goals as goal
 
 pub returns-clause-ok : goal.returns-clause-ok
 returns-clause-ok g c =
-    let around = ap (λ (told : Option Files). around_of told (string_bytes c.args.self.now.name)) c.in_ok-sync.ensures.files ∙ c.in_ok-write_marked.ensures.around in
-    contents_synced _ _ (g.H.Host.faults c.args.self.now.host) _ _ _ _ _ around (count_marks _ _ c.args.self.now.marks) c.clear-2.ensures _
+    let around = around_asked _ _ _ _ _ c.sync.ensures.files c.sync.ensures.asked ∙ c.in_ok-write_marked.ensures.around in
+    contents_synced _ _ _ _ (g.H.Host.faults c.args.self.now.host) _ _ _ _ _ around (count_marks _ _ c.args.self.now.marks) c.clear-2.ensures _
 
 pub returns-clause-cause : goal.returns-clause-cause
 returns-clause-cause g c = disk_went _ _ _ c.write_marked.ensures.cause.later c.sync.ensures.cause.later
@@ -19,7 +18,7 @@ pub returns-in_err-write_marked-clause-ok : goal.returns-in_err-write_marked-cla
 returns-in_err-write_marked-clause-ok g c = none_owed c.from_residual.result _ c.from_residual.ensures.0
 
 pub returns-in_err-write_marked-clause-err : goal.returns-in_err-write_marked-clause-err
-returns-in_err-write_marked-clause-err g c = owed c.from_residual.result _ (contents_kept _ _ (g.H.Host.faults c.args.self.now.host) _ _ _ _ _ c.write_marked.ensures.around refl _)
+returns-in_err-write_marked-clause-err g c = owed c.from_residual.result _ (contents_kept _ _ _ _ (g.H.Host.faults c.args.self.now.host) _ _ _ _ _ c.write_marked.ensures.around refl _)
 
 pub returns-in_err-write_marked-clause-cause : goal.returns-in_err-write_marked-clause-cause
 returns-in_err-write_marked-clause-cause g c = disk_failed c.from_residual.result _ _ _ c.from_residual.ensures.0 (le_refl _) c.write_marked.ensures.cause.later c.in_err-write_marked.ensures.cause.cause
@@ -29,8 +28,8 @@ returns-in_err-sync-clause-ok g c = none_owed c.from_residual-in_err-sync.result
 
 pub returns-in_err-sync-clause-err : goal.returns-in_err-sync-clause-err
 returns-in_err-sync-clause-err g c =
-    let around = ap (λ (told : Option Files). around_of told (string_bytes c.args.self.now.name)) c.sync.ensures.files ∙ c.write_marked.ensures.around in
-    owed c.from_residual-in_err-sync.result _ (contents_kept _ _ (g.H.Host.faults c.args.self.now.host) _ _ _ _ _ around refl _)
+    let around = around_asked _ _ _ _ _ c.sync.ensures.files c.sync.ensures.asked ∙ c.write_marked.ensures.around in
+    owed c.from_residual-in_err-sync.result _ (contents_kept _ _ _ _ (g.H.Host.faults c.args.self.now.host) _ _ _ _ _ around refl _)
 
 pub returns-in_err-sync-clause-cause : goal.returns-in_err-sync-clause-cause
 returns-in_err-sync-clause-cause g c = disk_failed c.from_residual-in_err-sync.result _ _ _ c.from_residual-in_err-sync.ensures.0 c.write_marked.ensures.cause.later c.sync.ensures.cause.later c.in_err-sync.ensures.cause.cause

@@ -11,12 +11,12 @@ use Rattle.block_disk.proofs.host_disk.HostDiskDiskBlocks.write.Goals as goal
 pub returns-in-Ok-clause-writes : goal.returns-in-Ok-clause-writes
 returns-in-Ok-clause-writes g c =
     let counted : c.saturating_add-self.result ≡ raised c.args.self.now.writes 1 = search rules in
-    contents_written _ _ (g.H.Host.faults c.args.self.now.host) _ _ _ _ _ _ _ _ c.args.b.0 c.in-Ok.ensures.around c.put_block_words.ensures.words c.requires.words (omega (arith, c.requires.block, blocks_many c.args.self.now.words.items)) c.mark.ensures counted _
+    contents_written _ _ _ _ (g.H.Host.faults c.args.self.now.host) _ _ _ _ _ _ _ _ c.args.b.0 c.in-Ok.ensures.around c.put_block_words.ensures.words c.requires.words (omega (arith, c.requires.block, blocks_many c.args.self.now.words.items)) c.mark.ensures counted _
 
 pub returns-in-Err-clause-writes : goal.returns-in-Err-clause-writes
 returns-in-Err-clause-writes g c =
     let counted : c.saturating_add-self.result ≡ raised c.args.self.now.writes 1 = search rules in
-    (c.args.from.now, c.requires.words, contents_written _ _ (g.H.Host.faults c.args.self.now.host) _ _ _ _ _ _ _ _ c.args.b.0 c.in-Err.ensures.around c.put_block_words.ensures.words c.requires.words (omega (arith, c.requires.block, blocks_many c.args.self.now.words.items)) c.mark.ensures counted _)
+    (c.args.from.now, c.requires.words, contents_written _ _ _ _ (g.H.Host.faults c.args.self.now.host) _ _ _ _ _ _ _ _ c.args.b.0 c.in-Err.ensures.around c.put_block_words.ensures.words c.requires.words (omega (arith, c.requires.block, blocks_many c.args.self.now.words.items)) c.mark.ensures counted _)
 
 pub mark-requires : goal.mark-requires
 mark-requires g c = omega (arith, c.requires.block, count_marks _ _ c.args.self.now.marks)
