@@ -1,18 +1,19 @@
 -- A list of files, of which each name finds the first that has it.
-use Rattle.std.proofs.Common.{◌≡◌, ◌≢◌, ℕ, zero, suc, Bool, true, false, not, cond, List, [], ◌∷◌, ◌++◌, set, get_or, refl, sym, ap, ◌∙◌, arith, inl, inr, Option, Some, None, Result, Ok, Err, OnOk, OnErr}
-use Rattle.std.specs.Result.{is_err}
+use Rattle.std.proofs.Common.{◌≡◌, ◌≢◌, ℕ, zero, suc, Bool, true, false, not, cond, List, ◌+◌, unwrap_or, [], ◌∷◌, ◌++◌, set, get_or, refl, sym, ap, ◌∙◌, arith, inl, inr, Option, Some, None, Result, Ok, Err, OnOk, OnErr}
 use Rattle.std.proofs.lemmas.List.{get_or-map, map-set, set-get_or}
 use Rattle.std.proofs.lemmas.Bool.{cases_Bool}
 use Rattle.std.proofs.lemmas.Map.Text.{is_eq-slice_cmp}
 use Rattle.std.proofs.lemmas.Slice.Eq.{bytes_eq-Decides}
 use Rattle.std.specs.Cmp.Lexicographic.{slice_cmp, nat_list_cmp_total}
-use Rattle.std.specs.FinMap.{find, from_entries, get, insert, remove, get-from_entries, get-insert, get-remove, same_map, slice_cmp-IsAntisymmetric, nat_cmp-IsAntisymmetric}
+use Rattle.std.specs.FinMap.{empty, find, from_entries, get, insert, remove, get-from_entries, get-insert, get-remove, same_map, slice_cmp-IsAntisymmetric, nat_cmp-IsAntisymmetric}
 use Rattle.std.specs.List.{filter}
 use Rattle.std.specs.Ordering.{eq_by_cmp, nat_cmp}
 use Rattle.std.specs.Str.{bytes_eq}
 use Rattle.std.specs.String.{string_bytes}
-use Rattle.rio_base.specs.Hosts.{Overwrites, overwritten}
-use Rattle.test_objects.specs.MemHosts.{IsFirst, Lacks, entries_of, files_of}
+use Rattle.std.specs.Prelude.{String}
+use Rattle.std.specs.declared.alloc.Global.{Global}
+use Rattle.rio_base.specs.Hosts.{Asked, AsksFor, Overwrites, bytes_in, overwritten}
+use Rattle.test_objects.specs.MemHosts.{IsFirst, IsNoted, Lacks, asked_all, asked_more, asked_of, entries_of, files_of}
 use Rattle.test_objects.specs.declared.mem_host.MemFile.{MemFile}
 
 -- the test by which a name is found
@@ -146,7 +147,14 @@ pub wrote_at : (files : List MemFile) (name : List ℕ) (i off : ℕ) (from : Li
     → Overwrites (Some (files_of files)) name off from (Some (files_of (set files i g)))
 wrote_at files name i off from f g first read named is =
     let owns : string_bytes f.name ≡ name = ap (λ (h : MemFile). string_bytes h.name) read ∙ first.here f in
-    (f.bytes.items, get_read files name i f first read, ap Some (set_is files name i g (named ∙ owns) first ∙ ap (insert (files_of files) name) is))
+    let own : bytes_in (files_of files) name ≡ f.bytes.items = ap (λ (got : Option (List ℕ)). unwrap_or got []) (get_read files name i f first read) in
+    ap Some (set_is files name i g (named ∙ owns) first ∙ ap (insert (files_of files) name) (is ∙ ap (λ (bytes : List ℕ). overwritten bytes off from) (sym own)))
+
+-- a file that was made by a write
+pub made_at : (files new : List MemFile) (name : List ℕ) (off : ℕ) (from bytes : List ℕ) → Lacks files name → bytes ≡ overwritten [] off from → files_of new ≡ insert (files_of files) name bytes → Overwrites (Some (files_of files)) name off from (Some (files_of new))
+made_at files new name off from bytes lacks is put =
+    let none : bytes_in (files_of files) name ≡ [] = ap (λ (got : Option (List ℕ)). unwrap_or got []) (get_none files name lacks) in
+    ap Some (put ∙ ap (insert (files_of files) name) (is ∙ ap (λ (all : List ℕ). overwritten all off from) (sym none)))
 
 -- a file that has the bytes that it had
 pub kept_at : (files : List MemFile) (name : List ℕ) (i : ℕ) (f g : MemFile) → IsFirst files name i → f ≡ get_or files i f → string_bytes g.name ≡ string_bytes f.name → g.bytes.items ≡ f.bytes.items → files_of (set files i g) ≡ files_of files
@@ -156,11 +164,28 @@ kept_at files name i f g first read named is =
     let there : entry f ≡ get_or (entries_of files) i (entry f) = ap entry read ∙ sym (get_or-map entry files i f (entry f) first.within) in
     ap from_entries (map-set entry files i g ∙ ap (set (entries_of files) i) (alike ∙ there) ∙ set-get_or (entries_of files) i (entry f))
 
--- what holds of a result, by its test
-pub ok_part : {T E : Type 0} (P : Type 0) (r : Result T E) → is_err r ≡ false → OnOk r P → P
-ok_part P (Ok value) test holds = holds
-ok_part P (Err error) test holds = absurd (cc)
+-- ---- what was asked for
 
-pub err_part : {T E : Type 0} (P : Type 0) (r : Result T E) → is_err r ≡ true → OnErr r P → P
-err_part P (Ok value) test holds = absurd (cc)
-err_part P (Err error) test holds = holds
+asked_push : (asked : Asked) (names : List (String Global)) (name : String Global) → asked_all asked (names ++ name ∷ []) ≡ asked_more (asked_all asked names) (string_bytes name)
+asked_push asked [] name = refl
+asked_push asked (n ∷ names) name = asked_push (asked_more asked (string_bytes n)) names name
+
+pub noted_last : (names : List (String Global)) (given : List ℕ) (name : String Global) → string_bytes name ≡ given → asked_of (names ++ name ∷ []) ≡ asked_more (asked_of names) given
+noted_last names given name is = asked_push empty names name ∙ ap (asked_more (asked_of names)) is
+
+hidden : {A : Type 0} (b : Bool) (x y z : A) → cond b x (cond b y z) ≡ cond b x z
+hidden true x y z = refl
+hidden false x y z = refl
+
+-- one more of a name leaves all other counts
+more_asks : (asked : Asked) (name : List ℕ) → AsksFor name asked (asked_more asked name)
+more_asks asked name =
+    same_map nat_list_cmp_total (slice_cmp-IsAntisymmetric nat_cmp-IsAntisymmetric) (remove (asked_more asked name) name) (remove asked name)
+    (λ q. get-remove nat_list_cmp_total (asked_more asked name) name q
+    ∙ ap (cond (same q name) None) (get-insert nat_list_cmp_total asked name (unwrap_or (get asked name) 0 + 1) q)
+    ∙ hidden (same q name) None (Some (unwrap_or (get asked name) 0 + 1)) (get asked q)
+    ∙ sym (get-remove nat_list_cmp_total asked name q))
+
+pub noted_asks : (name : List ℕ) (old new : Asked) → IsNoted name old new → AsksFor name old new
+noted_asks name old new (inl is) = ap (λ (asked : Asked). remove asked name) is ∙ more_asks old name
+noted_asks name old new (inr is) = ap (λ (asked : Asked). remove asked name) is

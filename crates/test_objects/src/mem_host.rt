@@ -7,8 +7,8 @@ ghost use Rattle.std.specs.FinMap.{empty, get, insert, remove as without};
 ghost use Rattle.rio_base.specs.Failures.{FailsIf, Rose, is_due};
 ghost use Rattle.rio_base.specs.Disks.{raised};
 ghost use Rattle.test_objects.specs.MemStreams.{faults_after};
-ghost use Rattle.rio_base.specs.Hosts.{EndsBy, HasBytes, Overwrites, overwritten};
-ghost use Rattle.test_objects.specs.MemHosts.{IsFirst, Lacks, files_of};
+ghost use Rattle.rio_base.specs.Hosts.{AsksFor, EndsBy, HasBytes, Overwrites, overwritten};
+ghost use Rattle.test_objects.specs.MemHosts.{IsFirst, IsNoted, Lacks, asked_more, asked_of, files_of};
 
 use crate::failing_calls::FailingCalls;
 use rio_base::{Failed, Host};
@@ -22,22 +22,25 @@ struct MemFile {
     bytes: Vec<u8>,
 }
 
-/// A host that keeps its files in memory, and fails where it is told to. Where it finds no memory it fails too.
+/// A host that keeps its files in memory, and fails where it is told to. Where it finds no memory it fails too. It notes
+/// which files it was asked for, as long as there is memory for that.
 #[derive(Drop)]
 pub struct MemHost {
     alloc: Global,
     files: Vec<MemFile>,
+    /// The name that each call was given, in order.
+    asked: Vec<String>,
     calls: FailingCalls,
 }
 
 impl Model for MemHost {
-    ghost use Rattle.test_objects.specs.MemHosts.{MemHostState, files_of, state_code};
+    ghost use Rattle.test_objects.specs.MemHosts.{MemHostState, asked_of, files_of, state_code};
 
     ghost Value = { MemHostState };
 
     ghost coded = { state_code };
 
-    ghost view = { λ a. record { files = files_of a.files.items; calls = a.calls.calls; faults = a.calls.faults; failing = a.calls.failing.items } };
+    ghost view = { λ a. record { files = files_of a.files.items; asked = asked_of a.asked.items; calls = a.calls.calls; faults = a.calls.faults; failing = a.calls.failing.items } };
 }
 
 /// The place of the first file of this name.
@@ -116,16 +119,24 @@ fn put_file(files: &mut Vec<MemFile>, name: &String, bytes: Vec<u8>) -> Result<(
     Ok(())
 }
 
-/// Writes `from` over the bytes of a file, where it is there and there is memory.
-fn write_file(files: &mut Vec<MemFile>, name: &String, off: u64, from: &[u8]) -> Result<(), Failed>
+/// Writes `from` over the bytes of a file, where there is memory. A file that isn't there is made.
+fn write_file(
+    alloc: Global,
+    files: &mut Vec<MemFile>,
+    name: &String,
+    off: u64,
+    from: &[u8],
+) -> Result<(), AllocError>
     ensures ok { OnOk result (Overwrites (Some (files_of files.old.items)) (string_bytes name.now) off from.now (Some (files_of files.new.items))) }
     ensures err { OnErr result (files_of files.new.items ≡ files_of files.old.items) }
 {
-    let Some(i) = place_of(files, name) else {
-        return Err(Failed);
-    };
-    if overwrite(&mut files[i].bytes, off, from).is_err() {
-        return Err(Failed);
+    match place_of(files, name) {
+        Some(i) => overwrite(&mut files[i].bytes, off, from)?,
+        None => {
+            let mut bytes = Vec::new(alloc);
+            overwrite(&mut bytes, off, from)?;
+            put_file(files, name, bytes)?;
+        }
     }
     Ok(())
 }
@@ -137,14 +148,25 @@ fn remove_file(files: &mut Vec<MemFile>, name: &String)
     files.retain(|file| file.name != *name);
 }
 
+/// Notes that a name was asked for.
+fn note(asked: &mut Vec<String>, name: &String) -> Result<(), AllocError>
+    ensures ok { OnOk result (asked_of asked.new.items ≡ asked_more (asked_of asked.old.items) (string_bytes name.now)) }
+    ensures err { OnErr result (asked_of asked.new.items ≡ asked_of asked.old.items) }
+{
+    let name = name.clone()?;
+    asked.push(name)?;
+    Ok(())
+}
+
 impl MemHost {
     /// A host without files.
     pub fn new(alloc: Global) -> MemHost
-        ensures { result ≡ record { files = empty; calls = 0; faults = 0; failing = [] } }
+        ensures { result ≡ record { files = empty; asked = empty; calls = 0; faults = 0; failing = [] } }
     {
         MemHost {
             alloc,
             files: Vec::new(alloc),
+            asked: Vec::new(alloc),
             calls: FailingCalls::new(alloc),
         }
     }
@@ -184,6 +206,18 @@ impl MemHost {
     {
         self.calls.fail_call(n)
     }
+
+    /// Notes and counts a call that was given this name, and says whether it is not to fail.
+    #[tactic(auto, using(crate::proofs::Files::noted_asks))]
+    fn begin(&mut self, name: &String) -> Result<(), Failed>
+        ensures fails { FailsIf (is_due self.old.calls self.old.failing) result }
+        ensures asked { AsksFor (string_bytes name.now) self.old.asked self.new.asked }
+        ensures noted { IsNoted (string_bytes name.now) self.old.asked self.new.asked }
+        ensures counted { self.new ≡ record self.old { asked = self.new.asked; calls = raised self.old.calls 1; faults = faults_after result self.old.faults } }
+    {
+        let _ = note(&mut self.asked, name);
+        self.calls.begin()
+    }
 }
 
 impl Host for MemHost {
@@ -191,14 +225,18 @@ impl Host for MemHost {
 
     ghost files = { λ s. Some s.files };
 
+    ghost asked = { λ s. s.asked };
+
     ghost faults = { λ s. s.faults };
 
     fn size(&mut self, name: &String) -> Result<Option<u64>, Failed>
         ensures size { IfOk result (λ size. size ≡ option_map length (get self.old.files (string_bytes name.now))) }
         ensures fails { FailsIf (is_due self.old.calls self.old.failing) result }
-        ensures counted { self.new ≡ record self.old { calls = raised self.old.calls 1; faults = faults_after result self.old.faults } }
+        ensures asked { AsksFor (string_bytes name.now) self.old.asked self.new.asked }
+        ensures noted { IsNoted (string_bytes name.now) self.old.asked self.new.asked }
+        ensures counted { self.new ≡ record self.old { asked = self.new.asked; calls = raised self.old.calls 1; faults = faults_after result self.old.faults } }
     {
-        self.calls.begin()?;
+        self.begin(name)?;
         Ok(self.file(name).map(|bytes| bytes.len() as u64))
     }
 
@@ -206,13 +244,15 @@ impl Host for MemHost {
         ensures bound { IfOk result (λ n. n ≤ length into.new) }
         ensures bytes { IfOk result (λ n. HasBytes (⟦<MemHost as Host>⟧.files self.old) (string_bytes name.now) off (take n into.new)) }
         ensures end { result ≡ Ok 0 → 0 < length into.new → EndsBy (⟦<MemHost as Host>⟧.files self.old) (string_bytes name.now) off ⊎ Rose self.old.faults self.new.faults }
-        ensures fails { FailsIf (is_due self.old.calls self.old.failing || is_none (get self.old.files (string_bytes name.now))) result }
-        ensures counted { self.new ≡ record self.old { calls = raised self.old.calls 1; faults = faults_after result self.old.faults } }
+        ensures fails { FailsIf (is_due self.old.calls self.old.failing) result }
+        ensures asked { AsksFor (string_bytes name.now) self.old.asked self.new.asked }
+        ensures noted { IsNoted (string_bytes name.now) self.old.asked self.new.asked }
+        ensures counted { self.new ≡ record self.old { asked = self.new.asked; calls = raised self.old.calls 1; faults = faults_after result self.old.faults } }
     {
-        self.calls.begin()?;
+        self.begin(name)?;
         match self.file(name) {
             Some(bytes) => Ok(copy_from(bytes, off, into)),
-            None => Err(self.calls.fail()),
+            None => Ok(0),
         }
     }
 
@@ -220,10 +260,12 @@ impl Host for MemHost {
         ensures ok { OnOk result (Overwrites (Some self.old.files) (string_bytes name.now) off from.now (Some self.new.files)) }
         ensures same { OnErr result (self.new.files ≡ self.old.files) }
         ensures due { OnOk result (is_due self.old.calls self.old.failing ≡ false) }
-        ensures counted { self.new ≡ record self.old { files = self.new.files; calls = raised self.old.calls 1; faults = faults_after result self.old.faults } }
+        ensures asked { AsksFor (string_bytes name.now) self.old.asked self.new.asked }
+        ensures noted { IsNoted (string_bytes name.now) self.old.asked self.new.asked }
+        ensures counted { self.new ≡ record self.old { files = self.new.files; asked = self.new.asked; calls = raised self.old.calls 1; faults = faults_after result self.old.faults } }
     {
-        self.calls.begin()?;
-        if write_file(&mut self.files, name, off, from).is_err() {
+        self.begin(name)?;
+        if write_file(self.alloc, &mut self.files, name, off, from).is_err() {
             return Err(self.calls.fail());
         }
         Ok(())
@@ -231,9 +273,11 @@ impl Host for MemHost {
 
     fn sync(&mut self, name: &String) -> Result<(), Failed>
         ensures fails { FailsIf (is_due self.old.calls self.old.failing || is_none (get self.old.files (string_bytes name.now))) result }
-        ensures counted { self.new ≡ record self.old { calls = raised self.old.calls 1; faults = faults_after result self.old.faults } }
+        ensures asked { AsksFor (string_bytes name.now) self.old.asked self.new.asked }
+        ensures noted { IsNoted (string_bytes name.now) self.old.asked self.new.asked }
+        ensures counted { self.new ≡ record self.old { asked = self.new.asked; calls = raised self.old.calls 1; faults = faults_after result self.old.faults } }
     {
-        self.calls.begin()?;
+        self.begin(name)?;
         if self.file(name).is_none() {
             return Err(self.calls.fail());
         }
@@ -244,9 +288,11 @@ impl Host for MemHost {
         ensures ok { OnOk result (self.new.files ≡ insert self.old.files (string_bytes name.now) from.now) }
         ensures err { OnErr result (self.new.files ≡ self.old.files) }
         ensures due { OnOk result (is_due self.old.calls self.old.failing ≡ false) }
-        ensures counted { self.new ≡ record self.old { files = self.new.files; calls = raised self.old.calls 1; faults = faults_after result self.old.faults } }
+        ensures asked { AsksFor (string_bytes name.now) self.old.asked self.new.asked }
+        ensures noted { IsNoted (string_bytes name.now) self.old.asked self.new.asked }
+        ensures counted { self.new ≡ record self.old { files = self.new.files; asked = self.new.asked; calls = raised self.old.calls 1; faults = faults_after result self.old.faults } }
     {
-        self.calls.begin()?;
+        self.begin(name)?;
         if self.put(name, from).is_err() {
             return Err(self.calls.fail());
         }
