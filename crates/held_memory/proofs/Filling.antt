@@ -1,5 +1,5 @@
 -- Bytes of a file over which words are written, one part behind the other.
-use Rattle.std.proofs.Common.{◌≡◌, ◌≤◌, ℕ, ◌+◌, ◌-◌, ◌*◌, List, ◌++◌, length, take, drop, Option, Some, None, sym, ap, ◌∙◌, arith, length-drop}
+use Rattle.std.proofs.Common.{◌≡◌, ◌≤◌, ℕ, ◌+◌, ◌-◌, ◌*◌, List, [], ◌++◌, length, take, drop, Option, Some, None, unwrap_or, sym, ap, ◌∙◌, arith, length-drop}
 use Rattle.std.proofs.lemmas.List.{drop-drop, drop-take, take-append-drop, take-take}
 use Rattle.rio_base.specs.Bytes.{bytes_of}
 use Rattle.rio_base.specs.Hosts.{overwritten}
@@ -11,9 +11,6 @@ use Rattle.held_memory.proofs.WordBytes.{bytes_both, front_and_part, long_front,
 
 some_file : (x y : FileBytes) → Some x ≡ Some y → x ≡ y
 some_file x y e = cc
-
-some_bytes : (x y : List ℕ) → Some x ≡ Some y → x ≡ y
-some_bytes x y e = cc
 
 -- m more words are written behind the first d
 pub fill_more : (d m : ℕ) (bytes words : List ℕ) → length bytes ≡ 8 * length words → d + m ≤ length words → overwritten (filled d bytes words) (8 * d) (bytes_of (take m (drop d words))) ≡ filled (d + m) bytes words
@@ -46,7 +43,7 @@ pub record Passed (from done upto : ℕ) (bytes words : List ℕ) (told : Option
 -- a write leaves this
 pub written_now : (at : ℕ) (words : List ℕ) (told new : Option FileBytes) (whole : List ℕ) → told ≡ Some (Some whole) → WritesWords at words told new → new ≡ Some (Some (overwritten whole (8 * at) (bytes_of words)))
 written_now at words None new whole e h = cc
-written_now at words (Some file) new whole e (own, is, made) = made ∙ ap (λ (bs : List ℕ). Some (Some (overwritten bs (8 * at) (bytes_of words)))) (some_bytes own whole (sym is ∙ some_file file (Some whole) e))
+written_now at words (Some file) new whole e made = made ∙ ap (λ (f : FileBytes). Some (Some (overwritten (unwrap_or f []) (8 * at) (bytes_of words)))) (some_file file (Some whole) e)
 
 pub written_none : (at : ℕ) (words : List ℕ) (told new : Option FileBytes) → told ≡ None → WritesWords at words told new → new ≡ None
 written_none at words None new e h = h

@@ -1,5 +1,5 @@
 -- What a file of words has, its moments, and what its calls say of it, each only where that is told.
-use Rattle.std.specs.Prelude.{◌≡◌, ◌≤◌, ◌⊎◌, ℕ, ◌*◌, List, [], ◌∷◌, ◌++◌, Option, Some, length, take, None}
+use Rattle.std.specs.Prelude.{◌≡◌, ◌≤◌, ◌⊎◌, ℕ, ◌*◌, List, [], ◌∷◌, ◌++◌, Option, Some, length, take, None, unwrap_or}
 use Rattle.std.specs.Option.{option_map}
 use Rattle.std.specs.FinMap.{get}
 use Rattle.rio_base.specs.Bytes.{bytes_of}
@@ -31,16 +31,16 @@ file_in (Some files) name = Some (get files name)
 abbrev pub IsSize : Option FileBytes → Option ℕ → Type 0
 IsSize told size = (file : FileBytes) → told ≡ Some file → size ≡ option_map length file
 
--- the file is there, and the bytes of these words were written over its own from word `at` on
+-- the bytes of these words were written over the file's own from word `at` on. One that wasn't there had none
 abbrev pub WritesWords : ℕ → List ℕ → Option FileBytes → Option FileBytes → Type 0
 WritesWords at words None new = new ≡ None
-WritesWords at words (Some file) new = (whole : List ℕ) × (file ≡ Some whole) × (new ≡ Some (Some (overwritten whole (8 * at) (bytes_of words))))
+WritesWords at words (Some file) new = new ≡ Some (Some (overwritten (unwrap_or file []) (8 * at) (bytes_of words)))
 
 -- what a write of n words that failed leaves: the file as before, or the bytes of these words are others
 abbrev pub TearsWords : ℕ → ℕ → Option FileBytes → Option FileBytes → Type 0
 TearsWords at n None new = new ≡ None
 TearsWords at n (Some file) new =
-    (new ≡ Some file) ⊎ ((whole torn : List ℕ) × (file ≡ Some whole) × DifferWithin (8 * at) (8 * n) whole torn × (new ≡ Some (Some torn)))
+    (new ≡ Some file) ⊎ ((torn : List ℕ) × DifferWithin (8 * at) (8 * n) (unwrap_or file []) torn × (new ≡ Some (Some torn)))
 
 -- a file of these bytes, over which the first m of these words are written from word `at` on, for some m
 abbrev pub IsWrittenFront : ℕ → List ℕ → List ℕ → FileBytes → Type 0

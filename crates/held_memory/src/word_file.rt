@@ -26,8 +26,8 @@ pub trait WordFile {
         ensures cause { HasCause result (faults self.old) (faults self.new) };
 
     /// Writes a run of words over the file's own from word `at` on, in their order: whatever cuts the call off leaves a front of
-    /// them written. A call that failed may have changed the bytes of these words, and no others. There is no writing into a file
-    /// that isn't there.
+    /// them written. A call that failed may have changed the bytes of these words, and no others. A file that isn't there is
+    /// made.
     fn write_words(&mut self, at: u32, words: &[u64]) -> Result<(), Failed>
         requires few { length words.now ≤ 512 }
         requires small { at + length words.now < 2 ^ 32 }
