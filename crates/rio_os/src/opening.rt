@@ -85,6 +85,23 @@ where
     Err(io::Error::from(ErrorKind::ResourceBusy))
 }
 
+/// Makes an empty file and takes its lock. One that is there meanwhile is an error.
+pub(crate) fn make_locked<R: Files>(
+    files: &R,
+    name: &String,
+    lock: Option<FileLock>,
+) -> io::Result<OpenedFile<R::File>>
+where
+    R::File: HostFile,
+{
+    let file = OpenOptions::new()
+        .read(true)
+        .write(true)
+        .create_new(true)
+        .open(files, name.as_str())?;
+    OpenedFile::locked(file, lock)
+}
+
 /// Opens a file for what its lock is for: with a shared one to be read, and else to be written too. One that is protected
 /// against that can be read all the same, and each write of it fails.
 fn open_for<R: Files>(files: &R, name: &String, lock: Option<FileLock>) -> io::Result<R::File> {

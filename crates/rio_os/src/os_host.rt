@@ -5,7 +5,7 @@ ghost use Rattle.rio_base.specs.Failures.{HasCause, Rose};
 
 use crate::file_lock::{FileLock, HostFile};
 use crate::open_files::OpenFiles;
-use crate::opening::{FileId, looked_at, open_locked};
+use crate::opening::{FileId, looked_at, make_locked, open_locked};
 use crate::pieces::read_from;
 use crate::replacing::{NewFile, replace_file};
 use rio_base::{Failed, Host};
@@ -15,7 +15,7 @@ use std::io::{self, ErrorKind};
 use std::os::unix::fs::FileExt;
 use std::rt::Files;
 
-/// A host over real files. It tells no content, and counts each call that failed.
+/// A host over real files. It tells neither their content nor what it was asked for, and counts each call that failed.
 ///
 /// The first call on a file opens it, and takes its lock. It stays open and locked until the host is dropped, so that another run has
 /// no call on it meanwhile, but for two whose locks are shared. A lock that is refused is a call that failed, and from then on
@@ -150,26 +150,52 @@ where
         Ok(Some(file.metadata()?.len()))
     }
 
-    /// Reads bytes from byte `off` on. None before the end is an error.
+    /// Reads bytes from byte `off` on. None before the end is an error. A file that isn't there has none.
     fn read_piece(&mut self, name: &String, off: u64, into: &mut [u8]) -> io::Result<usize>
         ensures bound { IfOk result (λ n. n ≤ length into.new) }
         ensures faults { self.new.faults ≡ self.old.faults }
     {
         self.hold(name)?;
+        if !self.kept.has(name) {
+            return Ok(0);
+        }
         read_from(self.kept.current(&self.files, name)?, off, into)
     }
 
-    /// Writes all of `from` from byte `off` on into a file that is there.
+    /// Writes all of `from` from byte `off` on. A file that isn't there is made.
     fn write_piece(&mut self, name: &String, off: u64, from: &[u8]) -> io::Result<()>
         ensures { self.new.faults ≡ self.old.faults }
     {
         self.hold(name)?;
+        if !self.kept.has(name) {
+            self.make(name)?;
+        }
         let file = match self.lock {
             Some(_) => self.kept.current(&self.files, name)?,
             // To ask for the name costs a call of the system. Beside another host `size` alone asks.
             None => self.kept.open(name)?,
         };
         file.write_all_at(from, off)
+    }
+
+    /// Makes an empty file where there is none, and keeps it open. That is for a host that has exclusive locks, and none is made
+    /// once a lock was refused.
+    fn make(&mut self, name: &String) -> io::Result<()>
+        ensures { self.new.faults ≡ self.old.faults }
+    {
+        if self.in_use.is_some() {
+            return Err(io::Error::from(ErrorKind::WouldBlock));
+        }
+        if self.lock != Some(FileLock::Exclusive) {
+            return Err(io::Error::from(ErrorKind::PermissionDenied));
+        }
+        // All memory is taken before the file is there.
+        let name_kept = name.clone()?;
+        self.kept.make_room()?;
+        match make_locked(&self.files, name, self.lock) {
+            Ok(opened) => Ok(self.kept.keep(name_kept, opened)?),
+            Err(error) => Err(self.noted(name, error)),
+        }
     }
 
     /// Brings a file's bytes to the device.
@@ -232,7 +258,11 @@ impl<R: Files + Drop> Host for OsHost<R>
 where
     R::File: HostFile,
 {
+    ghost use Rattle.std.specs.FinMap.{empty};
+
     ghost files = { λ _. None };
+
+    ghost asked = { λ _. empty };
 
     ghost faults = { λ host. host.faults };
 
