@@ -109,7 +109,7 @@ unmade o c x on h streams none counted =
 -- ---- a reboot that failed
 
 -- its disk is still that of the file
-pub failed_around : (o : Outset) (c : Contents) (r : Running) (fail : BootFail) → IsFailed o c r fail → c.around ≡ around_of o.told o.disk
+pub failed_around : (o : Outset) (c : Contents) (r : Running) (fail : BootFail) (h : IsFailed o c r fail) → c.around ≡ around_of o.told h.made.disk.asked o.disk
 failed_around o c r fail h = h.runs.around ∙ h.made.disk.around
 
 -- a machine that runs as it is left

@@ -10,12 +10,12 @@ use Rattle.std.proofs.lemmas.Slice.Eq.{bytes_eq-Decides}
 use Rattle.rio_base.specs.Blocks.{Around}
 use Rattle.rio_base.specs.Bytes.{bytes_of}
 use Rattle.rio_base.specs.Disks.{DiskContents, block_at, blocks_of, is_pending}
-use Rattle.rio_base.specs.Hosts.{Files, IsFile, with_file}
+use Rattle.rio_base.specs.Hosts.{Asked, Files, IsFile, bytes_in, with_file}
 use Rattle.rio_base.specs.Machine.{Contents}
 use Rattle.rio_base.specs.Rules.{true_false}
 use Rattle.rio_base.proofs.Bytes.{length-bytes_of}
 use Rattle.rio_base.proofs.WordBlocks.{block_is, blocks_many}
-use Rattle.block_disk.specs.HostDisks.{HasSettled, around_of, file_bytes}
+use Rattle.block_disk.specs.HostDisks.{HasSettled, around_of}
 use Rattle.block_disk.proofs.FileBlocks.{block_bytes}
 use Rattle.block_disk.proofs.HostFiles.{get_put}
 use Rattle.rio_model.specs.Cover.{MayLeave}
@@ -110,20 +110,20 @@ name_in name None = name
 name_in name (Some a) = a.file
 
 -- the other files are as before
-other_left : (told left : Option Files) (disk q : List ℕ) → around_of left disk ≡ around_of told disk → same q disk ≡ false → file_of left q ≡ file_of told q
+other_left : (told left : Option Files) (old later : Asked) (disk q : List ℕ) → around_of left later disk ≡ around_of told old disk → same q disk ≡ false → file_of left q ≡ file_of told q
 unfolding others_in
-other_left None None disk q e other = refl
-other_left None (Some now) disk q e other = absurd (none_some _ (sym e))
-other_left (Some files) None disk q e other = absurd (none_some _ e)
-other_left (Some files) (Some now) disk q e other = sym (get_gone now disk q other) ∙ ap (λ (a : Option Around). others_in a q) e ∙ get_gone files disk q other
+other_left None None old later disk q e other = refl
+other_left None (Some now) old later disk q e other = absurd (none_some _ (sym e))
+other_left (Some files) None old later disk q e other = absurd (none_some _ e)
+other_left (Some files) (Some now) old later disk q e other = sym (get_gone now disk q other) ∙ ap (λ (a : Option Around). others_in a q) e ∙ get_gone files disk q other
 
-pub others_left : (told left : Option Files) (disk q : List ℕ) → around_of left disk ≡ around_of told disk → q ≢ disk → file_of left q ≡ file_of told q
-others_left told left disk q e ne = other_left told left disk q e (not_same q disk ne)
+pub others_left : (told left : Option Files) (old later : Asked) (disk q : List ℕ) → around_of left later disk ≡ around_of told old disk → q ≢ disk → file_of left q ≡ file_of told q
+others_left told left old later disk q e ne = other_left told left old later disk q e (not_same q disk ne)
 
-pub left_told : (told left : Option Files) (disk : List ℕ) (files : Files) → around_of left disk ≡ around_of told disk → told ≡ Some files → (now : Files) × (left ≡ Some now)
-left_told None left disk files e is = absurd (none_some files is)
-left_told (Some others) None disk files e is = absurd (none_some _ e)
-left_told (Some others) (Some now) disk files e is = (now, refl)
+pub left_told : (told left : Option Files) (old later : Asked) (disk : List ℕ) (files : Files) → around_of left later disk ≡ around_of told old disk → told ≡ Some files → (now : Files) × (left ≡ Some now)
+left_told None left old later disk files e is = absurd (none_some files is)
+left_told (Some others) None old later disk files e is = absurd (none_some _ e)
+left_told (Some others) (Some now) old later disk files e is = (now, refl)
 
 -- ---- the disk's own
 
@@ -143,7 +143,7 @@ disk_left (Some files) now disk c e h = by (get files disk) refl (h.there files 
     by : (got : Option (List ℕ)) → get files disk ≡ got → is_some (get files disk) ≡ true → (bytes : List ℕ) × (file_of (Some files) disk ≡ Some bytes) × AreDiskBytes c bytes
     by None is there = absurd (no_some (ap (λ (o : Option (List ℕ)). is_some o) (sym is) ∙ there))
     by (Some bytes) is there =
-        let own : file_bytes files disk ≡ bytes = ap (λ (o : Option (List ℕ)). unwrap_or o []) is in (
+        let own : bytes_in files disk ≡ bytes = ap (λ (o : Option (List ℕ)). unwrap_or o []) is in (
           bytes,
           is,
           record {
@@ -202,9 +202,9 @@ bytes_kept c bytes words n long is clear h = ext_get_or 0 bytes (bytes_of words)
         ∙ sym (block_bytes words b y fits small)
         ∙ ap (slice_index (bytes_of words)) place
 
-none_left : (left : Option Files) (disk : List ℕ) → around_of left disk ≡ None → left ≡ None
-none_left None disk e = refl
-none_left (Some now) disk e = absurd (none_some _ (sym e))
+none_left : (left : Option Files) (later : Asked) (disk : List ℕ) → around_of left later disk ≡ None → left ≡ None
+none_left None later disk e = refl
+none_left (Some now) later disk e = absurd (none_some _ (sym e))
 
 -- the files are those of before
 some_left : (files now : Files) (disk : List ℕ) (c : Contents) (words : List ℕ) (n : ℕ) → get files disk ≡ Some (bytes_of words) → length words ≡ 512 * n → c.disk ≡ blocks_of words → ((b : ℕ) → is_pending c.pending b ≡ false) → Leaves (Some files) disk c (Some now) → now ≡ files
@@ -215,19 +215,19 @@ some_left files now disk c words n file long is clear h = same_map nat_list_cmp_
 
     each : (q : List ℕ) → (q ≡ disk) ⊎ (same q disk ≡ false) → get now q ≡ get files q
     each q (inl one) = ap (get now) one ∙ own.1 ∙ ap Some (bytes_kept c own.0 words n long is clear own.2) ∙ sym file ∙ ap (get files) (sym one)
-    each q (inr other) = other_left (Some files) (Some now) disk q h.around other
+    each q (inr other) = other_left (Some files) (Some now) h.asked_before h.asked disk q h.around other
 
 pub files_kept : (told left : Option Files) (disk : List ℕ) (c : Contents) (words : List ℕ) (n : ℕ) → IsFile told disk (bytes_of words) → length words ≡ 512 * n → c.disk ≡ blocks_of words → ((b : ℕ) → is_pending c.pending b ≡ false) → Leaves told disk c left → left ≡ told
-files_kept None left disk c words n file long is clear h = none_left left disk h.around
+files_kept None left disk c words n file long is clear h = none_left left h.asked disk h.around
 files_kept (Some files) None disk c words n file long is clear h = absurd (none_some _ h.around)
 files_kept (Some files) (Some now) disk c words n file long is clear h = ap Some (some_left files now disk c words n file long is clear h)
 
 -- ---- a machine that was taken back
 
 -- what the disk's host has after it was handed out
-pub leaves_by : (told left : Option Files) (disk name : List ℕ) (c : Contents) (d : DiskContents) → HasSettled left name d → around_of left name ≡ d.around → ((b w : ℕ) → slice_index (block_at d.blocks b) w < 2 ^ 64) → HandsBack c d → c.around ≡ around_of told disk → Leaves told disk c left
+pub leaves_by : (told left : Option Files) (old later : Asked) (disk name : List ℕ) (c : Contents) (d : DiskContents) → HasSettled left name d → around_of left later name ≡ d.around → ((b w : ℕ) → slice_index (block_at d.blocks b) w < 2 ^ 64) → HandsBack c d → c.around ≡ around_of told old disk → Leaves told disk c left
 unfolding name_in
-leaves_by told left disk name c d file around fit back here = by left told file (around ∙ back.around ∙ here)
+leaves_by told left old later disk name c d file around fit back here = by left told file (around ∙ back.around ∙ here)
   where
     words : (b w : ℕ) → slice_index (block_at c.disk b) w < 2 ^ 64
     words = subst (λ (blocks : List (List ℕ)). (b w : ℕ) → slice_index (block_at blocks b) w < 2 ^ 64) back.blocks fit
@@ -246,14 +246,16 @@ leaves_by told left disk name c d file around fit back here = by left told file 
       settled = λ files e b less none. h.settled files e b (omega (arith, less, count)) (clear b none (cases_Bool (is_pending d.pending b))) ∙ ap (λ (blocks : List (List ℕ)). bytes_of (block_at blocks b)) back.blocks;
     }
 
-    by : (left told : Option Files) → HasSettled left name d → around_of left name ≡ around_of told disk → Leaves told disk c left
-    by None None h e = record { around = refl; settled = record { there = λ files is. absurd (none_some files is); long = λ files is. absurd (none_some files is); settled = λ files is. absurd (none_some files is) }; fit = words }
+    by : (left told : Option Files) → HasSettled left name d → around_of left later name ≡ around_of told old disk → Leaves told disk c left
+    by None None h e = record { asked_before = old; asked = later; around = refl; settled = record { there = λ files is. absurd (none_some files is); long = λ files is. absurd (none_some files is); settled = λ files is. absurd (none_some files is) }; fit = words }
     by None (Some files) h e = absurd (none_some _ e)
     by (Some now) None h e = absurd (none_some _ (sym e))
     by (Some now) (Some files) h e =
         let one : name ≡ disk = ap (name_in disk) e in
         record {
-          around = subst (λ (n : List ℕ). around_of (Some now) n ≡ around_of (Some files) disk) one e;
+          asked_before = old;
+          asked = later;
+          around = subst (λ (n : List ℕ). around_of (Some now) later n ≡ around_of (Some files) old disk) one e;
           settled = subst (λ (n : List ℕ). HasSettled (Some now) n (disk_of c)) one (settled (Some now) h);
           fit = words;
         }

@@ -75,7 +75,7 @@ made_found o c r m = record { words = c.words; disk_words = m.disk.words; image_
 
 -- the files but the two are as before
 pub others_unsaved : (o : Outset) (c : Contents) (left : Option Files) (name : List ℕ) → Leaves o.told o.disk c left → name ≢ o.disk → file_of left name ≡ file_of o.told name
-others_unsaved o c left name h ne = others_left o.told left o.disk name h.around ne
+others_unsaved o c left name h ne = others_left o.told left h.asked_before h.asked o.disk name h.around ne
 
 pub others_saved : (o : Outset) (c : Contents) (r : Running) (x : Outcome) (name : List ℕ) → SavedAs o c r x → name ≢ o.image → name ≢ o.disk → file_of x.told name ≡ file_of o.told name
 others_saved o c r x name h image disk =
@@ -98,7 +98,7 @@ pub record MemoryNow (o : Outset) (c : Contents) (r : Running) (left : Option Fi
   pub leaves : MayLeave c blocks
 
 memory_now : (o : Outset) (c : Contents) (r : Running) (left : Option Files) (files : Files) (s : State) → o.told ≡ Some files → Leaves o.told o.disk c left → AreWords (c.words ++ r.scratch) → StandsFor c (length r.scratch) s → MemoryNow o c r left s
-memory_now o c r left files s e leaves fit st = by (left_told o.told left o.disk files leaves.around e)
+memory_now o c r left files s e leaves fit st = by (left_told o.told left leaves.asked_before leaves.asked o.disk files leaves.around e)
   where
     by : (now : Files) × (left ≡ Some now) → MemoryNow o c r left s
     by (now, is) =
@@ -127,7 +127,7 @@ pub record PairNow (o : Outset) (c : Contents) (x : Outcome) (s : State) : Type 
   pub leaves : MayLeave c blocks
 
 pub saved_pair : (o : Outset) (c : Contents) (r : Running) (x : Outcome) (files : Files) (s : State) → o.told ≡ Some files → o.image ≢ o.disk → SavedAs o c r x → StandsFor c (length r.scratch) s → PairNow o c x s
-saved_pair o c r x files s e two h st = by (left_told o.told h.left o.disk files h.leaves.around e) (memory_now o c r h.left files s e h.leaves h.fit st)
+saved_pair o c r x files s e two h st = by (left_told o.told h.left h.leaves.asked_before h.leaves.asked o.disk files h.leaves.around e) (memory_now o c r h.left files s e h.leaves h.fit st)
   where
     by : (now : Files) × (h.left ≡ Some now) → MemoryNow o c r h.left s → PairNow o c x s
     by (now, is) m = record {

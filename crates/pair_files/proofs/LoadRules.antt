@@ -6,7 +6,7 @@ use Rattle.std.proofs.lemmas.Bool.{cases_lt}
 use Rattle.std.proofs.lemmas.List.{get_or-replicate, get_or_past, length-replicate, take-append-drop}
 use Rattle.rio_base.specs.Failures.{Rose}
 use Rattle.rio_base.specs.Disks.{DiskContents, blocks_of, is_pending}
-use Rattle.rio_base.specs.Hosts.{Files, HasSize, IsAbsent}
+use Rattle.rio_base.specs.Hosts.{Asked, Files, HasSize, IsAbsent}
 use Rattle.rio_base.specs.Machine.{Contents, Running}
 use Rattle.rio_base.specs.Rules.{none_some}
 use Rattle.rio_base.proofs.Rules.{rose_later}
@@ -55,14 +55,15 @@ none_pending n b = from (cases_lt b n)
     from (inr past) = get_or_past (replicate n false) b false (omega (arith, past, length-replicate n false))
 
 -- a disk was made of the file
-pub disk_loaded : (told : Option Files) (name fresh : List ℕ) (d : DiskContents) (faults : ℕ) → fresh ≡ name → ((words : List ℕ) × AreFileWords told fresh words × (d ≡ file_contents told faults fresh words (replicate (length (blocks_of words)) false) 0)) → IsDiskLoaded told name d
-disk_loaded told name fresh d faults same (words, file, is) = subst (λ (n : List ℕ). IsDiskLoaded told n d) same (record {
+pub disk_loaded : (told : Option Files) (asked : Asked) (name fresh : List ℕ) (d : DiskContents) (faults : ℕ) → fresh ≡ name → ((words : List ℕ) × AreFileWords told fresh words × (d ≡ file_contents told asked faults fresh words (replicate (length (blocks_of words)) false) 0)) → IsDiskLoaded told name d
+disk_loaded told asked name fresh d faults same (words, file, is) = subst (λ (n : List ℕ). IsDiskLoaded told n d) same (record {
   words = words;
   file = file;
   blocks = ap (λ (x : DiskContents). x.blocks) is;
   settled = λ b. ap (λ (x : DiskContents). is_pending x.pending b) is ∙ none_pending (length (blocks_of words)) b;
   limit = ap (λ (x : DiskContents). x.faults.limit) is;
   writes = ap (λ (x : DiskContents). x.writes) is;
+  asked = asked;
   around = ap (λ (x : DiskContents). x.around) is;
 })
 

@@ -5,7 +5,7 @@ use Rattle.rio_base.specs.Blocks.{Causes}
 use Rattle.rio_base.specs.Bytes.{bytes_of}
 use Rattle.rio_base.specs.Failures.{HasCause, Rose}
 use Rattle.rio_base.specs.Disks.{DiskContents, block_at, blocks_of, is_pending}
-use Rattle.rio_base.specs.Hosts.{Files, with_file}
+use Rattle.rio_base.specs.Hosts.{Asked, Files, with_file}
 use Rattle.rio_base.specs.Image.{HasHeader}
 use Rattle.rio_base.specs.Machine.{Contents, Running}
 use Rattle.rio_base.specs.Shapes.{IsServed}
@@ -51,7 +51,7 @@ made_of o bytes words scratch d stop h = record {
   are = image_parts bytes words scratch h.image.read.are;
   layout = h.image.read.layout;
   keeps = h.image.read.keeps;
-  disk = record { words = h.disk.words; file = h.disk.file; blocks = h.disk.blocks; settled = h.disk.settled; limit = h.disk.limit; writes = h.disk.writes; around = h.disk.around };
+  disk = record { words = h.disk.words; file = h.disk.file; blocks = h.disk.blocks; settled = h.disk.settled; limit = h.disk.limit; writes = h.disk.writes; asked = h.disk.asked; around = h.disk.around };
   counted = h.counted;
   running = refl;
   stop_set = ap (λ (s : Option ℕ). is_some s) (sym h.stop_is);
@@ -63,9 +63,9 @@ pub is_made : (o : Outset) (bytes words : List ℕ) (scratch : ℕ) (d : DiskCon
 is_made o bytes words scratch d stop c r contents run h = subst (λ (y : Contents). IsMade o y r) (sym contents) (subst (IsMade o (made_contents words scratch d)) (sym run) (made_of o bytes words scratch d stop h))
 
 -- none was made, and the disk is handed out
-pub ended_unmade : {E : Type 0} (o : Outset) (bytes words : List ℕ) (scratch : ℕ) (d e : DiskContents) (stop : Option ℕ) (x : Outcome) (name : List ℕ) → IsFound o bytes words scratch d stop → e ≡ d → HasSettled x.told name e → around_of x.told name ≡ e.around → ((b w : ℕ) → slice_index (block_at e.blocks b) w < 2 ^ 64) → x.faults ≡ e.faults.count → x.streams ≡ o.streams → x.pages ≡ None → EndedEarly {E = E} o Memory x
-ended_unmade o bytes words scratch d e stop x name h same file around fit faults streams none =
-    unmade o c x (record { words = h.disk.words; file = h.disk.file; blocks = h.disk.blocks; settled = h.disk.settled; limit = h.disk.limit; writes = h.disk.writes; around = h.disk.around }) (leaves_by o.told x.told o.disk name c e file around fit back h.disk.around) streams none
+pub ended_unmade : {E : Type 0} (o : Outset) (asked : Asked) (bytes words : List ℕ) (scratch : ℕ) (d e : DiskContents) (stop : Option ℕ) (x : Outcome) (name : List ℕ) → IsFound o bytes words scratch d stop → e ≡ d → HasSettled x.told name e → around_of x.told asked name ≡ e.around → ((b w : ℕ) → slice_index (block_at e.blocks b) w < 2 ^ 64) → x.faults ≡ e.faults.count → x.streams ≡ o.streams → x.pages ≡ None → EndedEarly {E = E} o Memory x
+ended_unmade o asked bytes words scratch d e stop x name h same file around fit faults streams none =
+    unmade o c x (record { words = h.disk.words; file = h.disk.file; blocks = h.disk.blocks; settled = h.disk.settled; limit = h.disk.limit; writes = h.disk.writes; asked = h.disk.asked; around = h.disk.around }) (leaves_by o.told x.told h.disk.asked asked o.disk name c e file around fit back h.disk.around) streams none
     (let count = ap (λ (y : DiskContents). y.faults.count) same in omega (arith, faults, count, h.counted))
   where
     c : Contents

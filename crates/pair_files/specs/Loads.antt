@@ -1,7 +1,7 @@
 -- What is loaded of a pair of files, and why nothing is.
 use Rattle.std.specs.Prelude.{◌≡◌, ◌<◌, ◌*◌, ℕ, false, List, length, Option, Some, None, ◌⊎◌}
 use Rattle.rio_base.specs.Disks.{DiskContents, blocks_of, is_pending}
-use Rattle.rio_base.specs.Hosts.{Files, HasSize, IsAbsent, IsFile}
+use Rattle.rio_base.specs.Hosts.{Asked, Files, HasSize, IsAbsent, IsFile}
 use Rattle.rio_model.specs.Registry.{HasLayout, KeepsRegistry}
 use Rattle.board.specs.Boards.{protected_of, scratch_of}
 use Rattle.block_disk.specs.HostDisks.{AreFileWords, IsDiskLength, around_of}
@@ -34,7 +34,9 @@ pub record IsDiskLoaded (told : Option Files) (disk : List ℕ) (d : DiskContent
   pub settled : (b : ℕ) → is_pending d.pending b ≡ false
   pub limit : d.faults.limit ≡ None
   pub writes : d.writes ≡ 0
-  pub around : d.around ≡ around_of told disk
+  -- some counts of what was asked for: these are not said to be the host's
+  pub asked : Asked
+  pub around : d.around ≡ around_of told asked disk
 
 -- ---- why nothing is
 

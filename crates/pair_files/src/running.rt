@@ -4,6 +4,7 @@ ghost use Rattle.std.specs.Prelude.{◌≡◌, ◌≢◌, ◌≤◌, ◌+◌, �
 ghost use Rattle.std.specs.String.{string_bytes};
 ghost use Rattle.block_disk.specs.HostDisks.{around_of};
 ghost use Rattle.rio_base.specs.Disks.{is_pending};
+ghost use Rattle.rio_base.specs.Hosts.{Asked};
 ghost use Rattle.rio_base.specs.Image.{HasHeader};
 ghost use Rattle.rio_model.specs.declared.state.State.{State};
 ghost use Rattle.rio_model.specs.Registry.{HasLayout, KeepsRegistry};
@@ -262,7 +263,7 @@ fn end_saved<H: Host, B: Bench<HostDisk<H>>, E: Drop>(
     requires bytes { length bytes.items ≡ 8 * (length (B.M.contents machine).words + length (B.M.run machine).scratch) }
     requires pages { (n : ℕ) × (B.pages bench.old ≡ Some n) × (512 * n ≡ length (B.M.contents machine).words + length (B.M.run machine).scratch) }
     requires unparted { B.parted bench.old ≡ false }
-    ensures saved { (o : Outset) (streams : Streams) → o.image ≡ string_bytes image.now → (B.M.contents machine).around ≡ around_of o.told o.disk → SavedOrNot end result.0 o (B.M.contents machine) (B.M.run machine) (outcome_of (H.files result.1) (H.faults result.1) streams (B.pages bench.new) (B.tells bench.new) (B.left bench.new)) }
+    ensures saved { (o : Outset) (streams : Streams) (asked : Asked) → o.image ≡ string_bytes image.now → (B.M.contents machine).around ≡ around_of o.told asked o.disk → SavedOrNot end result.0 o (B.M.contents machine) (B.M.run machine) (outcome_of (H.files result.1) (H.faults result.1) streams (B.pages bench.new) (B.tells bench.new) (B.left bench.new)) }
     ensures parted { B.parted bench.new ≡ true }
     ensures began { B.began bench.new ≡ B.began bench.old }
     ensures tells_start { B.tells_start bench.new ≡ B.tells_start bench.old }

@@ -5,7 +5,7 @@ ghost use Rattle.std.specs.String.{string_bytes};
 ghost use Rattle.block_disk.specs.HostDisks.{around_of};
 ghost use Rattle.rio_base.specs.Bytes.{bytes_of};
 ghost use Rattle.rio_base.specs.Failures.{HasCause};
-ghost use Rattle.rio_base.specs.Hosts.{Files};
+ghost use Rattle.rio_base.specs.Hosts.{Asked, Files};
 ghost use Rattle.machine_bench.specs.Benches.{left_by};
 ghost use Rattle.pair_files.specs.Saves.{Leaves, Replaces};
 
@@ -28,7 +28,7 @@ pub(crate) fn save<H: Host, B: Bench<HostDisk<H>>>(
     requires pages { (n : ℕ) × (B.pages bench.old ≡ Some n) × (512 * n ≡ length (B.M.contents machine).words + length (B.M.run machine).scratch) }
     requires unparted { B.parted bench.old ≡ false }
     requires bytes { length bytes.items ≡ 8 * (length (B.M.contents machine).words + length (B.M.run machine).scratch) }
-    ensures files { (told : Option Files) (disk : List ℕ) → (B.M.contents machine).around ≡ around_of told disk → (left : Option Files) × Leaves told disk (B.M.contents machine) left × Replaces result.0 (string_bytes image.now) (bytes_of ((B.M.contents machine).words ++ (B.M.run machine).scratch)) left (H.files result.1) }
+    ensures files { (told : Option Files) (asked : Asked) (disk : List ℕ) → (B.M.contents machine).around ≡ around_of told asked disk → (left : Option Files) × Leaves told disk (B.M.contents machine) left × Replaces result.0 (string_bytes image.now) (bytes_of ((B.M.contents machine).words ++ (B.M.run machine).scratch)) left (H.files result.1) }
     ensures fit { (i : ℕ) → slice_index ((B.M.contents machine).words ++ (B.M.run machine).scratch) i < 2 ^ 64 }
     ensures cause { HasCause result.0 (B.M.contents machine).faults.count (H.faults result.1) }
     ensures pages { B.pages bench.new ≡ B.pages bench.old }
@@ -49,7 +49,7 @@ pub(crate) fn save<H: Host, B: Bench<HostDisk<H>>>(
 pub(crate) fn hand_back<H: Host, B: Bench<HostDisk<H>>>(machine: B::M, bench: &mut B) -> H
     requires pages { (n : ℕ) × (B.pages bench.old ≡ Some n) × (512 * n ≡ length (B.M.contents machine).words + length (B.M.run machine).scratch) }
     requires unparted { B.parted bench.old ≡ false }
-    ensures files { (told : Option Files) (disk : List ℕ) → (B.M.contents machine).around ≡ around_of told disk → Leaves told disk (B.M.contents machine) (H.files result) }
+    ensures files { (told : Option Files) (asked : Asked) (disk : List ℕ) → (B.M.contents machine).around ≡ around_of told asked disk → Leaves told disk (B.M.contents machine) (H.files result) }
     ensures faults { H.faults result ≡ (B.M.contents machine).faults.count }
     ensures pages { B.pages bench.new ≡ B.pages bench.old }
     ensures parted { B.parted bench.new ≡ true }

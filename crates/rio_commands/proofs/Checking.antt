@@ -4,7 +4,7 @@ use Rattle.std.specs.Prelude.{Option, None, ◌⊎◌, slice_index}
 use Rattle.rio_base.specs.Bytes.{bytes_of}
 use Rattle.rio_base.specs.Failures.{Rose}
 use Rattle.rio_base.specs.Disks.{DiskContents, FaultCount, block_at, blocks_of, is_pending}
-use Rattle.rio_base.specs.Hosts.{Files, IsAbsent}
+use Rattle.rio_base.specs.Hosts.{Asked, Files, IsAbsent}
 use Rattle.rio_base.specs.Machine.{Contents, Running}
 use Rattle.rio_base.proofs.Rules.{rose_later}
 use Rattle.block_disk.specs.HostDisks.{HasSettled, around_of}
@@ -217,21 +217,21 @@ holds_board told image bytes words scratch now is loaded = subst (HoldsImage tol
 -- ---- the files afterwards
 
 -- a disk that was only read is handed back over the files that it was loaded from
-pub files_read : (told left : Option Files) (disk name : List ℕ) (d e : DiskContents) → IsDiskLoaded told disk d → e.blocks ≡ d.blocks → e.pending ≡ d.pending → e.around ≡ d.around
-    → HasSettled left name e → around_of left name ≡ e.around → ((b w : ℕ) → slice_index (block_at e.blocks b) w < 2 ^ 64) → left ≡ told
-files_read told left disk name d e on blocks pending around settled here fit =
+pub files_read : (told left : Option Files) (asked : Asked) (disk name : List ℕ) (d e : DiskContents) → IsDiskLoaded told disk d → e.blocks ≡ d.blocks → e.pending ≡ d.pending → e.around ≡ d.around
+    → HasSettled left name e → around_of left asked name ≡ e.around → ((b w : ℕ) → slice_index (block_at e.blocks b) w < 2 ^ 64) → left ≡ told
+files_read told left asked disk name d e on blocks pending around settled here fit =
     files_kept told left disk c on.words (length on.words / 512) on.file.bytes (file_blocks on.words on.file.long) (blocks ∙ on.blocks) (λ b. ap (λ (p : List Bool). is_pending p b) pending ∙ on.settled b)
-    (leaves_by told left disk name c e settled here fit (record { blocks = refl; faults = refl; writes = refl; around = refl; pending = λ b is. is }) (around ∙ on.around))
+    (leaves_by told left on.asked asked disk name c e settled here fit (record { blocks = refl; faults = refl; writes = refl; around = refl; pending = λ b is. is }) (around ∙ on.around))
   where
     c : Contents
     c = record { words = []; open_page = None; disk = e.blocks; pending = e.pending; faults = e.faults; writes = e.writes; around = e.around }
 
 -- the same where the machine was looked at, and then taken apart
-pub files_looked : (told left : Option Files) (disk name : List ℕ) (d e : DiskContents) (c new : Contents) (r s : Running) → IsDiskLoaded told disk d → HasDisk c d → Viewed c new r s
+pub files_looked : (told left : Option Files) (asked : Asked) (disk name : List ℕ) (d e : DiskContents) (c new : Contents) (r s : Running) → IsDiskLoaded told disk d → HasDisk c d → Viewed c new r s
     → e ≡ record { blocks = new.disk; pending = new.pending; faults = new.faults; writes = new.writes; around = new.around }
-    → HasSettled left name e → around_of left name ≡ e.around → ((b w : ℕ) → slice_index (block_at e.blocks b) w < 2 ^ 64) → left ≡ told
-files_looked told left disk name d e c new r s on has viewed is =
-    files_read told left disk name d e on
+    → HasSettled left name e → around_of left asked name ≡ e.around → ((b w : ℕ) → slice_index (block_at e.blocks b) w < 2 ^ 64) → left ≡ told
+files_looked told left asked disk name d e c new r s on has viewed is =
+    files_read told left asked disk name d e on
     (ap (λ (x : DiskContents). x.blocks) is ∙ ap (λ (x : Contents). x.disk) viewed.rest ∙ has.blocks)
     (ap (λ (x : DiskContents). x.pending) is ∙ ap (λ (x : Contents). x.pending) viewed.rest ∙ has.pending)
     (ap (λ (x : DiskContents). x.around) is ∙ ap (λ (x : Contents). x.around) viewed.rest ∙ has.around)

@@ -7,4 +7,4 @@ pub returns-in-Ok-clause-pages : goal.returns-in-Ok-clause-pages
 returns-in-Ok-clause-pages g c = machine_pages _ _ _ _ _ _ _ c.requires.bytes c.in-Ok.ensures.contents c.in-Ok.ensures.run c.in-Ok.ensures.pages
 
 pub returns-clause-back : goal.returns-clause-back
-returns-clause-back g c = seen_same c.in-Err.disk c.args.disk c.in-Err.ensures.back (λ d. file_contents (g.H.Host.files d.host) (g.H.Host.faults d.host) (string_bytes d.name) d.words.items d.pending.marks.items d.writes)
+returns-clause-back g c = seen_same c.in-Err.disk c.args.disk c.in-Err.ensures.back (λ d. file_contents (g.H.Host.files d.host) (g.H.Host.asked d.host) (g.H.Host.faults d.host) (string_bytes d.name) d.words.items d.pending.marks.items d.writes)

@@ -47,4 +47,4 @@ pub returns-in-Ok-clause-began : goal.returns-in-Ok-clause-began
 returns-in-Ok-clause-began g c = λ o found n made tells. has_begun o _ _ _ _ _ _ found (c.work_made.ensures.began ∙ c.in-Ok.ensures.began (sym c.make_machine.ensures.tells_start ∙ sym c.work_made.ensures.tells_start ∙ tells))
 
 pub returns-in-Err-clause-ended : goal.returns-in-Err-clause-ended
-returns-in-Err-clause-ended g c = λ o of found. ended_early o (λ end before after. g.W.PairWork.does c.args.work.now before end after) _ _ (ended_unmade o _ _ _ _ _ _ _ _ found c.in-Err.ensures.back c.into_host.ensures.file c.into_host.ensures.around c.into_host.ensures.fit c.into_host.ensures.faults (sym of.streams_are) (ap (λ b. g.B.Bench.pages b) c.in-Err.ensures.same ∙ c.requires.unmade))
+returns-in-Err-clause-ended g c = λ o of found. ended_early o (λ end before after. g.W.PairWork.does c.args.work.now before end after) _ _ (ended_unmade o _ _ _ _ _ _ _ _ _ found c.in-Err.ensures.back c.into_host.ensures.file c.into_host.ensures.around c.into_host.ensures.fit c.into_host.ensures.faults (sym of.streams_are) (ap (λ b. g.B.Bench.pages b) c.in-Err.ensures.same ∙ c.requires.unmade))

@@ -14,9 +14,9 @@ returns-in-Ok-clause-sure g c = λ told image disk image_bytes disk_bytes s load
 
 pub returns-in-Ok-clause-files : goal.returns-in-Ok-clause-files
 returns-in-Ok-clause-files g c = λ told disk on.
-    files_looked told _ disk _ _ _ _ _ _ _ on c.in-Ok.ensures.disk c.look_at_machine-end.ensures.untouched c.into_parts-disk.ensures.disk c.into_host.ensures.file c.into_host.ensures.around c.into_host.ensures.fit
+    files_looked told _ _ disk _ _ _ _ _ _ _ on c.in-Ok.ensures.disk c.look_at_machine-end.ensures.untouched c.into_parts-disk.ensures.disk c.into_host.ensures.file c.into_host.ensures.around c.into_host.ensures.fit
 
 pub returns-clause-files : goal.returns-clause-files
 returns-clause-files g c = λ told disk on.
-    files_read told _ disk _ _ _ on (ap (λ (d : DiskContents). d.blocks) c.in-Err.ensures.back) (ap (λ (d : DiskContents). d.pending) c.in-Err.ensures.back) (ap (λ (d : DiskContents). d.around) c.in-Err.ensures.back)
+    files_read told _ _ disk _ _ _ on (ap (λ (d : DiskContents). d.blocks) c.in-Err.ensures.back) (ap (λ (d : DiskContents). d.pending) c.in-Err.ensures.back) (ap (λ (d : DiskContents). d.around) c.in-Err.ensures.back)
     c.into_host-in-Err.ensures.file c.into_host-in-Err.ensures.around c.into_host-in-Err.ensures.fit
