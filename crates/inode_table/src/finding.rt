@@ -1,7 +1,8 @@
 //! The least free inode.
 
 ghost use Rattle.std.specs.Prelude.{◌≡◌, ◌%◌, ◌≤◌, ℕ, None, IfOk, length};
-ghost use Rattle.rio_base.specs.Blocks.{BlockWords, Caches, Ends, IsRun, Looks};
+ghost use Rattle.rio_base.specs.Frames.{CanRead, LooksShaped, ReadBy};
+ghost use Rattle.rio_base.specs.Blocks.{BlockWords, Caches, IsRun};
 ghost use Rattle.rio_base.specs.BlockSets.{CachesBy};
 ghost use Rattle.rio_base.specs.Layout.{inode_block};
 ghost use Rattle.rio_base.specs.Shapes.{HasShape};
@@ -29,17 +30,12 @@ fn first_of_words<V: Blocks>(
     shape: &VolumeShape,
     first: Ino,
 ) -> Result<Option<u32>, VolFail>
-    requires sound { V.sound v.old }
-    requires shape { HasShape shape.now (V.seen v.old) }
+    requires can { CanRead V.seen V.sound (HasShape shape.now) v.old }
     requires first { first.0 % 32 ≡ 1 }
     requires within { first.0 ≤ shape.now.inodes }
     ensures value { IfOk result (FindsBelow (V.seen v.old).words first.0 32) }
-    ensures looks { Looks (V.seen v.old) (V.seen v.new) }
-    ensures shape { HasShape shape.now (V.seen v.new) }
+    ensures read { ReadBy V.seen V.health V.sound V.passes (LooksShaped shape.now) v.old v.new result }
     ensures caches { Caches (V.seen v.old) (V.seen v.new) (inode_block first.0) None }
-    ensures passes { V.passes v.old v.new }
-    ensures ends { Ends (V.health v.old) (V.health v.new) result }
-    ensures sound { V.sound v.new }
 {
     let block = inode_block(shape, first);
     for n in 0..BLOCK_INODES {
@@ -57,17 +53,12 @@ pub(crate) fn first_of_block<V: Blocks>(
     shape: &VolumeShape,
     first: Ino,
 ) -> Result<Option<u32>, VolFail>
-    requires sound { V.sound v.old }
-    requires shape { HasShape shape.now (V.seen v.old) }
+    requires can { CanRead V.seen V.sound (HasShape shape.now) v.old }
     requires first { first.0 % 32 ≡ 1 }
     requires within { first.0 ≤ shape.now.inodes }
     ensures value { IfOk result (FindsBelow (V.seen v.old).words first.0 32) }
-    ensures looks { Looks (V.seen v.old) (V.seen v.new) }
-    ensures shape { HasShape shape.now (V.seen v.new) }
+    ensures read { ReadBy V.seen V.health V.sound V.passes (LooksShaped shape.now) v.old v.new result }
     ensures caches { Caches (V.seen v.old) (V.seen v.new) (inode_block first.0) None }
-    ensures passes { V.passes v.old v.new }
-    ensures ends { Ends (V.health v.old) (V.health v.new) result }
-    ensures sound { V.sound v.new }
 {
     let block = inode_block(shape, first);
     v.word(block, None, 0)?;
@@ -79,15 +70,10 @@ pub(crate) fn first_of_block<V: Blocks>(
 
 /// The least free inode, or `None` where none is free. `Fault` and `Stopped` are those of reading the inodes.
 pub fn least_free<V: Blocks>(v: &mut V, shape: &VolumeShape) -> Result<Option<Ino>, VolFail>
-    requires sound { V.sound v.old }
-    requires shape { HasShape shape.now (V.seen v.old) }
+    requires can { CanRead V.seen V.sound (HasShape shape.now) v.old }
     ensures value { IfOk result (FindsFree shape.now (V.seen v.old).words) }
-    ensures looks { Looks (V.seen v.old) (V.seen v.new) }
-    ensures shape { HasShape shape.now (V.seen v.new) }
+    ensures read { ReadBy V.seen V.health V.sound V.passes (LooksShaped shape.now) v.old v.new result }
     ensures caches { CachesBy (IsMetadata shape.now) (V.seen v.old) (V.seen v.new) }
-    ensures passes { V.passes v.old v.new }
-    ensures ends { Ends (V.health v.old) (V.health v.new) result }
-    ensures sound { V.sound v.new }
 {
     let mut first = 1;
     while first <= shape.inodes {

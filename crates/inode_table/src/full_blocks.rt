@@ -1,8 +1,9 @@
 //! Blocks of inodes that are known to be full.
 
 ghost use Rattle.std.specs.Prelude.{◌≢◌, ◌+◌, ◌*◌, ◌<◌, ◌≤◌, ℕ, IfOk, slice_index};
+ghost use Rattle.rio_base.specs.Frames.{CanRead, LooksShaped, ReadBy};
 ghost use Rattle.rio_base.specs.declared.places.VolumeShape.{VolumeShape as ShapeOf};
-ghost use Rattle.rio_base.specs.Blocks.{BlockWords, Ends, Looks};
+ghost use Rattle.rio_base.specs.Blocks.{BlockWords};
 ghost use Rattle.rio_base.specs.BlockSets.{CachesBy};
 ghost use Rattle.rio_base.specs.Shapes.{HasShape};
 ghost use Rattle.inode_table.specs.Inodes.{AreUsed, FindsFree, IsMetadata, KnowsFull, StayUsed};
@@ -73,17 +74,12 @@ pub fn least_free_past_full<V: Blocks>(
     shape: &VolumeShape,
     full: &mut FullBlocks,
 ) -> Result<Option<Ino>, VolFail>
-    requires sound { V.sound v.old }
-    requires shape { HasShape shape.now (V.seen v.old) }
+    requires can { CanRead V.seen V.sound (HasShape shape.now) v.old }
     requires known { KnowsFull shape.now full.old (V.seen v.old).words }
     ensures value { IfOk result (FindsFree shape.now (V.seen v.old).words) }
     ensures known { KnowsFull shape.now full.new (V.seen v.old).words }
-    ensures looks { Looks (V.seen v.old) (V.seen v.new) }
-    ensures shape { HasShape shape.now (V.seen v.new) }
+    ensures read { ReadBy V.seen V.health V.sound V.passes (LooksShaped shape.now) v.old v.new result }
     ensures caches { CachesBy (IsMetadata shape.now) (V.seen v.old) (V.seen v.new) }
-    ensures passes { V.passes v.old v.new }
-    ensures ends { Ends (V.health v.old) (V.health v.new) result }
-    ensures sound { V.sound v.new }
 {
     let mut k = full.next_open(0);
     while k < shape.inodes / BLOCK_INODES {

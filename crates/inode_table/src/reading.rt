@@ -1,7 +1,8 @@
 //! Inodes read.
 
 ghost use Rattle.std.specs.Prelude.{◌≡◌, ◌+◌, ◌/◌, ◌%◌, ◌^◌, ◌<◌, ◌≤◌, ℕ, None, IfOk, slice_index};
-ghost use Rattle.rio_base.specs.Blocks.{BlockWords, Caches, Ends, IsRun, Looks};
+ghost use Rattle.rio_base.specs.Frames.{CanRead, LooksShaped, ReadBy};
+ghost use Rattle.rio_base.specs.Blocks.{BlockWords, Caches, IsRun};
 ghost use Rattle.rio_base.specs.Layout.{IsIno, half, inode_block, inode_kind, inode_place};
 ghost use Rattle.rio_base.specs.Shapes.{HasShape};
 ghost use Rattle.inode_table.specs.Inodes.{IsInode};
@@ -56,17 +57,12 @@ fn inode_of(words: &[u64; INODE_WORDS]) -> Inode
 /// `Stopped` are those of reading its block.
 #[inline(always)]
 pub fn read_inode<V: Blocks>(v: &mut V, shape: &VolumeShape, i: Ino) -> Result<Inode, VolFail>
-    requires sound { V.sound v.old }
-    requires shape { HasShape shape.now (V.seen v.old) }
+    requires can { CanRead V.seen V.sound (HasShape shape.now) v.old }
     requires ino { IsIno shape.now i.0 }
     requires kind { inode_kind (V.seen v.old).words i.0 ≤ 3 }
     ensures value { IfOk result (IsInode (V.seen v.old).words i.0) }
-    ensures looks { Looks (V.seen v.old) (V.seen v.new) }
-    ensures shape { HasShape shape.now (V.seen v.new) }
+    ensures read { ReadBy V.seen V.health V.sound V.passes (LooksShaped shape.now) v.old v.new result }
     ensures caches { Caches (V.seen v.old) (V.seen v.new) (inode_block i.0) None }
-    ensures passes { V.passes v.old v.new }
-    ensures ends { Ends (V.health v.old) (V.health v.new) result }
-    ensures sound { V.sound v.new }
 {
     let mut words = [0; INODE_WORDS];
     v.read_run(inode_block(shape, i), None, inode_place(i), &mut words)?;
