@@ -1,14 +1,15 @@
 //! The lowest free blocks.
 
 ghost use Rattle.std.specs.Prelude.{◌≡◌, ◌-◌, ◌<◌, ◌≤◌, ◌++◌, None, IfOk, OnOk, IsErrOf, length, take};
+ghost use Rattle.rio_base.specs.Frames.{CanRead, HasRead, LooksShaped};
 ghost use Rattle.rio_base.specs.Bitmap.{free_blocks};
-ghost use Rattle.rio_base.specs.Blocks.{Looks, Caches, EndsBy};
+ghost use Rattle.rio_base.specs.Blocks.{Caches};
 ghost use Rattle.rio_base.specs.Shapes.{HasShape};
 ghost use Rattle.block_alloc.specs.Bitmap.{numbers, handed};
 ghost use Rattle.block_alloc.specs.Words.{set_bits};
 
 use crate::words::{RUN_WORDS, free_bits};
-use rio_base::{Block, BlockList, VolFail, Volume, VolumeShape};
+use rio_base::{Block, BlockList, Blocks, VolFail, VolumeShape};
 use std::alloc::{AllocError, AllocFailed, Global};
 use thiserror::Error;
 
@@ -76,23 +77,18 @@ fn push_free(found: &mut Vec<Block>, free: u64, first: u32, n: usize) -> Result<
 
 /// Chooses the `n` lowest free blocks, lowest first, and changes nothing. `NoSpace` comes exactly where fewer are free;
 /// `Fault` and `Stopped` are those of reading the bitmap; `Memory` is that of the list.
-pub fn take<V: Volume>(
+pub fn take<V: Blocks>(
     alloc: Global,
     v: &mut V,
     shape: &VolumeShape,
     n: u32,
 ) -> Result<BlockList, TakeFail>
-    requires sound { V.sound v.old }
-    requires shape { HasShape shape.now (V.seen v.old) }
+    requires can { CanRead V.seen V.sound (HasShape shape.now) v.old }
     ensures value { IfOk result (λ blocks. numbers blocks ≡ take n (free_blocks shape.now (V.seen v.old).words)) }
     ensures room { OnOk result (n ≤ length (free_blocks shape.now (V.seen v.old).words)) }
     ensures no_space { IsErrOf result TakeFail.NoSpace → length (free_blocks shape.now (V.seen v.old).words) < n }
-    ensures looks { Looks (V.seen v.old) (V.seen v.new) }
-    ensures shape { HasShape shape.now (V.seen v.new) }
+    ensures read { HasRead V.seen V.health V.sound V.passes (LooksShaped shape.now) v.old v.new (IsErrOf result TakeFail.Fault) (IsErrOf result TakeFail.Stopped) }
     ensures caches { Caches (V.seen v.old) (V.seen v.new) 1 None }
-    ensures passes { V.passes v.old v.new }
-    ensures ends { EndsBy (V.health v.old) (V.health v.new) (IsErrOf result TakeFail.Fault) (IsErrOf result TakeFail.Stopped) }
-    ensures sound { V.sound v.new }
 {
     let words = shape.blocks.div_ceil(64);
     let mut run = [0; RUN_WORDS];

@@ -1,7 +1,8 @@
 //! The bitmap by whole words of 64 blocks, read by runs of words.
 
 ghost use Rattle.std.specs.Prelude.{◌≡◌, ◌≢◌, ◌-◌, ◌*◌, ◌%◌, ◌^◌, ◌<◌, min, None, IfOk, OnOk};
-ghost use Rattle.rio_base.specs.Blocks.{BlockWords, Looks, Caches, Ends};
+ghost use Rattle.rio_base.specs.Frames.{CanRead, LooksShaped, ReadBy};
+ghost use Rattle.rio_base.specs.Blocks.{BlockWords, Caches};
 ghost use Rattle.rio_base.specs.Shapes.{HasShape};
 ghost use Rattle.block_alloc.specs.Words.{FreeBits, HoldsRun};
 
@@ -42,17 +43,12 @@ fn fill_run<V: Blocks>(
     w: u32,
     run: &mut [u64; RUN_WORDS],
 ) -> Result<(), VolFail>
-    requires sound { V.sound v.old }
-    requires shape { HasShape shape.now (V.seen v.old) }
+    requires can { CanRead V.seen V.sound (HasShape shape.now) v.old }
     requires begins { w % 64 ≡ 0 }
     requires within { 64 * w < shape.now.blocks }
     ensures run { OnOk result (HoldsRun shape.now (V.seen v.old).words w run.new) }
-    ensures looks { Looks (V.seen v.old) (V.seen v.new) }
-    ensures shape { HasShape shape.now (V.seen v.new) }
+    ensures read { ReadBy V.seen V.health V.sound V.passes (LooksShaped shape.now) v.old v.new result }
     ensures caches { Caches (V.seen v.old) (V.seen v.new) 1 None }
-    ensures passes { V.passes v.old v.new }
-    ensures ends { Ends (V.health v.old) (V.health v.new) result }
-    ensures sound { V.sound v.new }
 {
     let count = ((shape.blocks.div_ceil(64) - w) as usize).min(RUN_WORDS);
     v.read_run(BITMAP, None, w as u16, &mut run[..count])
@@ -66,18 +62,13 @@ pub fn free_bits<V: Blocks>(
     w: u32,
     run: &mut [u64; RUN_WORDS],
 ) -> Result<u64, VolFail>
-    requires sound { V.sound v.old }
-    requires shape { HasShape shape.now (V.seen v.old) }
+    requires can { CanRead V.seen V.sound (HasShape shape.now) v.old }
     requires within { 64 * w < shape.now.blocks }
     requires run { w % 64 ≢ 0 → HoldsRun shape.now (V.seen v.old).words w run.old }
     ensures value { IfOk result (FreeBits shape.now (V.seen v.old).words w) }
     ensures run { OnOk result (HoldsRun shape.now (V.seen v.old).words w run.new) }
-    ensures looks { Looks (V.seen v.old) (V.seen v.new) }
-    ensures shape { HasShape shape.now (V.seen v.new) }
+    ensures read { ReadBy V.seen V.health V.sound V.passes (LooksShaped shape.now) v.old v.new result }
     ensures caches { Caches (V.seen v.old) (V.seen v.new) 1 None }
-    ensures passes { V.passes v.old v.new }
-    ensures ends { Ends (V.health v.old) (V.health v.new) result }
-    ensures sound { V.sound v.new }
 {
     let place = w as usize % RUN_WORDS;
     if place != 0 {

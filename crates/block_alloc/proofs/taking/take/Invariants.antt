@@ -1,7 +1,7 @@
+use Rattle.rio_base.specs.Frames.{HasRead, LooksShaped}
 use Rattle.std.proofs.Common.{◌≡◌, ◌≢◌, ◌%◌, ◌-◌, ◌≤◌, take}
 use Rattle.std.specs.Prelude.{None}
-use Rattle.rio_base.specs.Blocks.{Looks, Caches}
-use Rattle.rio_base.specs.Shapes.{HasShape}
+use Rattle.rio_base.specs.Blocks.{Caches}
 use Rattle.block_alloc.specs.Words.{HoldsRun}
 use Rattle.block_alloc.specs.Bitmap.{numbers}
 use Rattle.block_alloc.proofs.Free.{free_before}
@@ -10,18 +10,12 @@ use Rattle.block_alloc.proofs.taking.take.Given as goal
 abbrev pub invariant-loop-w : goal.invariant-loop-w
 invariant-loop-w g l =
     let seen = g.V.Blocks.seen in
-    let health = g.V.Blocks.health in
     record {
       within : l.w ≤ l.words;
       found : numbers l.found.items ≡ take l.n (free_before l.shape (seen l.fn.v).words l.w);
       run : l.w % 64 ≢ 0 → HoldsRun l.shape (seen l.fn.v).words l.w l.run;
-      sound : g.V.Blocks.sound l.v;
-      looks : Looks (seen l.fn.v) (seen l.v);
-      shape : HasShape l.shape (seen l.v);
+      read : HasRead g.V.Blocks.seen g.V.Blocks.health g.V.Blocks.sound g.V.Blocks.passes (LooksShaped l.shape) l.fn.v l.v ⊥ ⊥;
       caches : Caches (seen l.fn.v) (seen l.v) 1 None;
-      passes : g.V.Blocks.passes l.fn.v l.v;
-      later : (health l.fn.v).faults ≤ (health l.v).faults;
-      running : (health l.v).stopped ≡ (health l.fn.v).stopped;
     }
 
 abbrev pub decreases-loop-w : goal.decreases-loop-w

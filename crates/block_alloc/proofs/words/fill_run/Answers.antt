@@ -1,14 +1,12 @@
+use Rattle.rio_base.proofs.Frames.{read_word, shaped_block}
 use Rattle.std.proofs.Common.{arith}
-use Rattle.rio_base.proofs.BlockRules.{metadata, still_unnamed}
+use Rattle.rio_base.proofs.BlockRules.{metadata}
 use Rattle.std.proofs.Common.{◌≡◌, length, length-take}
 use Rattle.block_alloc.proofs.Free.{run_read}
 use Rattle.block_alloc.proofs.words.fill_run.Goals as goal
 
 pub read_run-requires-clause-name : goal.read_run-requires-clause-name
-read_run-requires-clause-name g c = metadata c.args.shape.now _ 1 c.requires.shape (omega arith)
-
-pub returns-clause-shape : goal.returns-clause-shape
-returns-clause-shape g c = still_unnamed c.args.shape.now _ _ 1 c.requires.shape c.read_run.ensures.looks.count c.read_run.ensures.caches
+read_run-requires-clause-name g c = metadata c.args.shape.now _ 1 c.requires.can.meets (omega arith)
 
 pub returns-clause-run : goal.returns-clause-run
 returns-clause-run g c =
@@ -18,12 +16,15 @@ returns-clause-run g c =
 
 pub read_run-requires-clause-place : goal.read_run-requires-clause-place
 read_run-requires-clause-place g c = record {
-  block = omega (arith, c.requires.shape.count, c.requires.shape.sizes.blocks_from);
-  within = omega (arith, length-take c.min-count.result c.args.run.now, c.min-count.ensures, c.requires.begins, c.requires.within, c.requires.shape.sizes.blocks_to);
+  block = omega (arith, c.requires.can.meets.count, c.requires.can.meets.sizes.blocks_from);
+  within = omega (arith, length-take c.min-count.result c.args.run.now, c.min-count.ensures, c.requires.begins, c.requires.within, c.requires.can.meets.sizes.blocks_to);
 }
 
 pub overflow_sub-div_ceil : goal.overflow_sub-div_ceil
 overflow_sub-div_ceil g c = omega (arith, c.div_ceil.ensures, c.requires.within)
 
 pub overflow_cast-w : goal.overflow_cast-w
-overflow_cast-w g c = omega (arith, c.requires.within, c.requires.shape.sizes.blocks_to)
+overflow_cast-w g c = omega (arith, c.requires.within, c.requires.can.meets.sizes.blocks_to)
+
+pub returns-clause-read : goal.returns-clause-read
+returns-clause-read g c = read_word c.read_run.result (shaped_block c.args.shape.now _ _ _ c.requires.can.meets c.read_run.ensures.looks c.read_run.ensures.caches) c.read_run.ensures.passes c.read_run.ensures.ends c.read_run.ensures.sound

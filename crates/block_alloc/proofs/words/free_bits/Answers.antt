@@ -1,18 +1,17 @@
+use Rattle.rio_base.proofs.Frames.{read_none, read_ok, read_value, read_on, shaped_refl}
 use Rattle.std.proofs.Common.{arith}
 use Rattle.std.specs.Prelude.{None}
-use Rattle.std.proofs.lemmas.Result.{IfOk-from_err, err_from_is_err_and}
-use Rattle.std.proofs.Common.{le_refl, refl}
+use Rattle.std.proofs.lemmas.Result.{IfOk-from_err}
+use Rattle.std.proofs.Common.{refl}
 use Rattle.rio_base.proofs.BlockRules.{caches_refl}
-use Rattle.rio_base.proofs.Rules.{looks_refl}
-use Rattle.block_alloc.proofs.Ends.{ends_err, ends_ok, ends_ran}
 use Rattle.std.proofs.Common.{◌∙◌, ap, slice_index, sym}
 use Rattle.block_alloc.proofs.words.free_bits.Goals as goal
 
 pub free_of-requires-clause-word : goal.free_of-requires-clause-word
-free_of-requires-clause-word g c = omega (arith, c.requires.within, c.requires.shape.sizes.blocks_to)
+free_of-requires-clause-word g c = omega (arith, c.requires.within, c.requires.can.meets.sizes.blocks_to)
 
 pub free_of-requires-2-clause-word : goal.free_of-requires-2-clause-word
-free_of-requires-2-clause-word g c = omega (arith, c.requires.within, c.requires.shape.sizes.blocks_to)
+free_of-requires-2-clause-word g c = omega (arith, c.requires.within, c.requires.can.meets.sizes.blocks_to)
 
 pub fill_run-requires-clause-begins : goal.fill_run-requires-clause-begins
 fill_run-requires-clause-begins g c = omega (arith, c.if-place-ne0.false)
@@ -26,17 +25,8 @@ returns-clause-value g c = c.free_of-2.ensures (g.V.Blocks.seen c.args.v.now).wo
 pub returns-then-place-ne0-clause-run : goal.returns-then-place-ne0-clause-run
 returns-then-place-ne0-clause-run g c = c.requires.run c.if-place-ne0.true
 
-pub returns-then-place-ne0-clause-looks : goal.returns-then-place-ne0-clause-looks
-returns-then-place-ne0-clause-looks g c = looks_refl _
-
 pub returns-then-place-ne0-clause-caches : goal.returns-then-place-ne0-clause-caches
 returns-then-place-ne0-clause-caches g c = caches_refl _ 1 None
-
-pub returns-then-place-ne0-clause-passes : goal.returns-then-place-ne0-clause-passes
-returns-then-place-ne0-clause-passes g c = g.met.V.Blocks.passes_refl _
-
-pub returns-then-place-ne0-clause-ends : goal.returns-then-place-ne0-clause-ends
-returns-then-place-ne0-clause-ends g c = ends_ran _ _ _ (le_refl _) refl
 
 pub returns-in_err-fill_run-clause-value : goal.returns-in_err-fill_run-clause-value
 returns-in_err-fill_run-clause-value g c = IfOk-from_err c.from_residual.result _ c.from_residual.ensures.0
@@ -44,10 +34,14 @@ returns-in_err-fill_run-clause-value g c = IfOk-from_err c.from_residual.result 
 pub returns-in_err-fill_run-clause-run : goal.returns-in_err-fill_run-clause-run
 returns-in_err-fill_run-clause-run g c = IfOk-from_err c.from_residual.result _ c.from_residual.ensures.0
 
-pub returns-in_err-fill_run-clause-ends : goal.returns-in_err-fill_run-clause-ends
-returns-in_err-fill_run-clause-ends g c =
-    let p = err_from_is_err_and c.from_residual.result c.from_residual.ensures.1 in
-    ends_err _ _ c.fill_run.result c.from_residual.result _ _ c.in_err-fill_run.was p.1 p.2 c.fill_run.ensures.ends
+pub returns-then-place-ne0-clause-read : goal.returns-then-place-ne0-clause-read
+returns-then-place-ne0-clause-read g c = read_value _ (read_none (g.met.V.Blocks.passes_refl _) (shaped_refl c.args.shape.now _ c.requires.can.meets) c.requires.can.keeps)
 
-pub returns-clause-ends : goal.returns-clause-ends
-returns-clause-ends g c = ends_ok _ _ c.in_ok-fill_run.field-0 _ c.in_ok-fill_run.ensures.ends
+pub returns-in_err-fill_run-clause-read : goal.returns-in_err-fill_run-clause-read
+returns-in_err-fill_run-clause-read g c = read_on c.fill_run.result c.from_residual.result c.in_err-fill_run.was c.from_residual.ensures.1 c.fill_run.ensures.read
+
+pub returns-clause-read : goal.returns-clause-read
+returns-clause-read g c = read_value _ (read_ok c.fill_run.result _ c.in_ok-fill_run.was c.fill_run.ensures.read)
+
+pub fill_run-requires-clause-can : goal.fill_run-requires-clause-can
+fill_run-requires-clause-can g c = c.requires.can
