@@ -1,8 +1,8 @@
 //! Where the pages of a node lie.
 
-ghost use Rattle.std.specs.Prelude.{◌≡◌, ◌-◌, ◌/◌, ◌<◌, ℕ, None, IfOk};
-ghost use Rattle.rio_base.specs.Blocks.{Ends};
-ghost use Rattle.rio_base.specs.Layout.{IsIno, half, inode_block, inode_place, inode_word};
+ghost use Rattle.std.specs.Prelude.{◌≡◌, ◌<◌, IfOk};
+ghost use Rattle.rio_base.specs.Frames.{CanRead, ReadBy};
+ghost use Rattle.rio_base.specs.Layout.{IsIno, half, inode_word};
 ghost use Rattle.rio_model.specs.Placed.{AtPage, AtTable, HasSlot, placed_at, volume_layout, Owns};
 ghost use Rattle.node_pages.specs.LookingUp.{CanLookUp, LooksUp};
 
@@ -30,15 +30,11 @@ pub fn number_in(word: u64, n: u32) -> u32
 /// Word `w` of inode `i`.
 #[tactic(auto, using(crate::proofs::LookingUpRules::can_inode))]
 fn inode_word<V: Blocks>(v: &mut V, shape: &VolumeShape, i: Ino, w: u16) -> Result<u64, VolFail>
-    requires sound { V.sound v.old }
-    requires can { CanLookUp shape.now (V.seen v.old) }
+    requires can { CanRead V.seen V.sound (CanLookUp shape.now) v.old }
     requires ino { IsIno shape.now i.0 }
     requires word { w < 16 }
     ensures value { IfOk result (λ word. word ≡ inode_word (V.seen v.old).words i.0 w) }
-    ensures looks { LooksUp shape.now (V.seen v.old) (V.seen v.new) }
-    ensures passes { V.passes v.old v.new }
-    ensures ends { Ends (V.health v.old) (V.health v.new) result }
-    ensures sound { V.sound v.new }
+    ensures read { ReadBy V.seen V.health V.sound V.passes (LooksUp shape.now) v.old v.new result }
 {
     let block = Block(2 + (i.0 - 1) / 32);
     let place = 16 * ((i.0 - 1) % 32);
@@ -54,16 +50,12 @@ pub fn table_word<V: Blocks>(
     table: Block,
     w: u16,
 ) -> Result<u64, VolFail>
-    requires sound { V.sound v.old }
-    requires can { CanLookUp shape.now (V.seen v.old) }
+    requires can { CanRead V.seen V.sound (CanLookUp shape.now) v.old }
     requires owns { Owns (volume_layout shape.now (V.seen v.old).words) i.0 (AtTable 0) }
     requires table { table.0 ≡ (placed_at (V.seen v.old).words i.0).block (AtTable 0) }
     requires word { w < 512 }
     ensures value { IfOk result (λ word. word ≡ (V.seen v.old).words ((placed_at (V.seen v.old).words i.0).block (AtTable 0)) w) }
-    ensures looks { LooksUp shape.now (V.seen v.old) (V.seen v.new) }
-    ensures passes { V.passes v.old v.new }
-    ensures ends { Ends (V.health v.old) (V.health v.new) result }
-    ensures sound { V.sound v.new }
+    ensures read { ReadBy V.seen V.health V.sound V.passes (LooksUp shape.now) v.old v.new result }
 {
     v.word(table, None, w)
 }
@@ -76,15 +68,11 @@ pub fn block_of<V: Blocks>(
     i: Ino,
     index: u32,
 ) -> Result<Block, VolFail>
-    requires sound { V.sound v.old }
-    requires can { CanLookUp shape.now (V.seen v.old) }
+    requires can { CanRead V.seen V.sound (CanLookUp shape.now) v.old }
     requires ino { IsIno shape.now i.0 }
     requires page { HasSlot (placed_at (V.seen v.old).words i.0) (AtPage index) }
     ensures value { IfOk result (λ b. b.0 ≡ (placed_at (V.seen v.old).words i.0).block (AtPage index)) }
-    ensures looks { LooksUp shape.now (V.seen v.old) (V.seen v.new) }
-    ensures passes { V.passes v.old v.new }
-    ensures ends { Ends (V.health v.old) (V.health v.new) result }
-    ensures sound { V.sound v.new }
+    ensures read { ReadBy V.seen V.health V.sound V.passes (LooksUp shape.now) v.old v.new result }
 {
     if index < DIRECT_PAGES {
         let word = inode_word(v, shape, i, FIRST_NUMBERS + (index / 2) as u16)?;

@@ -1,7 +1,8 @@
 //! The blocks of a run of pages, and all blocks of a node.
 
-ghost use Rattle.std.specs.Prelude.{◌≡◌, ◌+◌, ◌-◌, ◌/◌, ◌<◌, ◌≤◌, ◌++◌, ◌∷◌, [], ℕ, max, length, slice_index, if◌then◌else◌, IfOk, IfSome, OnOk, IsErrOf};
-ghost use Rattle.rio_base.specs.Blocks.{Ends, EndsBy, IsRun};
+ghost use Rattle.std.specs.Prelude.{◌≡◌, ◌+◌, ◌-◌, ◌/◌, ◌<◌, ◌≤◌, ◌++◌, ◌∷◌, [], ℕ, max, length, slice_index, if◌then◌else◌, IfOk, IfSome, OnOk};
+ghost use Rattle.rio_base.specs.Frames.{CanRead, FilledBy, ReadBy};
+ghost use Rattle.rio_base.specs.Blocks.{IsRun};
 ghost use Rattle.rio_base.specs.Layout.{IsIno, half, inode_kind};
 ghost use Rattle.rio_model.specs.Placed.{AtPage, AtTable, Placed, placed_at, volume_layout, Owns};
 ghost use Rattle.rio_model.specs.Sizes.{pages};
@@ -64,17 +65,13 @@ fn table_words<V: Blocks>(
     from: u16,
     count: u16,
 ) -> Result<Vec<u64>, ReadFail>
-    requires sound { V.sound v.old }
-    requires can { CanLookUp shape.now (V.seen v.old) }
+    requires can { CanRead V.seen V.sound (CanLookUp shape.now) v.old }
     requires owns { Owns (volume_layout shape.now (V.seen v.old).words) i.0 (AtTable 0) }
     requires table { table.0 ≡ (placed_at (V.seen v.old).words i.0).block (AtTable 0) }
     requires within { from + count ≤ 512 }
     ensures len { IfOk result (λ words. length words.items ≡ count) }
     ensures words { IfOk result (λ words. IsRun (V.seen v.old).words ((placed_at (V.seen v.old).words i.0).block (AtTable 0)) from count words.items) }
-    ensures looks { LooksUp shape.now (V.seen v.old) (V.seen v.new) }
-    ensures passes { V.passes v.old v.new }
-    ensures ends { EndsBy (V.health v.old) (V.health v.new) (IsErrOf result ReadFail.Fault) (IsErrOf result ReadFail.Stopped) }
-    ensures sound { V.sound v.new }
+    ensures read { FilledBy V.seen V.health V.sound V.passes (LooksUp shape.now) v.old v.new result }
 {
     let mut words = vec![in alloc; 0u64; count as usize]?;
     v.read_run(table, None, from, &mut words)?;
@@ -92,8 +89,7 @@ fn push_later<V: Blocks>(
     end: u32,
     mut blocks: Vec<Block>,
 ) -> Result<Vec<Block>, ReadFail>
-    requires sound { V.sound v.old }
-    requires can { CanLookUp shape.now (V.seen v.old) }
+    requires can { CanRead V.seen V.sound (CanLookUp shape.now) v.old }
     requires owns { Owns (volume_layout shape.now (V.seen v.old).words) i.0 (AtTable 0) }
     requires table { table.0 ≡ (placed_at (V.seen v.old).words i.0).block (AtTable 0) }
     requires past { 24 ≤ first }
@@ -101,10 +97,7 @@ fn push_later<V: Blocks>(
     requires within { end ≤ pages (placed_at (V.seen v.old).words i.0).size }
     requires most { end ≤ 1048 }
     ensures value { IfOk result (λ found. numbers found.items ≡ numbers blocks.items ++ page_blocks (placed_at (V.seen v.old).words i.0) first (end - first)) }
-    ensures looks { LooksUp shape.now (V.seen v.old) (V.seen v.new) }
-    ensures passes { V.passes v.old v.new }
-    ensures ends { EndsBy (V.health v.old) (V.health v.new) (IsErrOf result ReadFail.Fault) (IsErrOf result ReadFail.Stopped) }
-    ensures sound { V.sound v.new }
+    ensures read { FilledBy V.seen V.health V.sound V.passes (LooksUp shape.now) v.old v.new result }
 {
     let from = (first - DIRECT_PAGES) / 2;
     let count = (end - 23) / 2 - from;
@@ -123,17 +116,13 @@ pub fn page_blocks<V: Blocks>(
     first: u32,
     end: u32,
 ) -> Result<Vec<Block>, ReadFail>
-    requires sound { V.sound v.old }
-    requires can { CanLookUp shape.now (V.seen v.old) }
+    requires can { CanRead V.seen V.sound (CanLookUp shape.now) v.old }
     requires ino { IsIno shape.now i.0 }
     requires inode { PlansFor (V.seen v.old).words i.0 inode.now }
     requires order { first ≤ end }
     requires within { end ≤ pages inode.now.size }
     ensures value { IfOk result (λ blocks. numbers blocks.items ≡ page_blocks (placed_at (V.seen v.old).words i.0) first (end - first)) }
-    ensures looks { LooksUp shape.now (V.seen v.old) (V.seen v.new) }
-    ensures passes { V.passes v.old v.new }
-    ensures ends { EndsBy (V.health v.old) (V.health v.new) (IsErrOf result ReadFail.Fault) (IsErrOf result ReadFail.Stopped) }
-    ensures sound { V.sound v.new }
+    ensures read { FilledBy V.seen V.health V.sound V.passes (LooksUp shape.now) v.old v.new result }
 {
     let mut blocks = Vec::new(alloc);
     let middle = end.min(first.max(DIRECT_PAGES));
@@ -179,14 +168,10 @@ pub fn push_table(blocks: &mut Vec<Block>, table: u32, counts: bool) -> Result<(
 
 /// Inode `i`, read to look up its blocks.
 pub fn look_inode<V: Blocks>(v: &mut V, shape: &VolumeShape, i: Ino) -> Result<Inode, VolFail>
-    requires sound { V.sound v.old }
-    requires can { CanLookUp shape.now (V.seen v.old) }
+    requires can { CanRead V.seen V.sound (CanLookUp shape.now) v.old }
     requires ino { IsIno shape.now i.0 }
     ensures value { IfOk result (IsInode (V.seen v.old).words i.0) }
-    ensures looks { LooksUp shape.now (V.seen v.old) (V.seen v.new) }
-    ensures passes { V.passes v.old v.new }
-    ensures ends { Ends (V.health v.old) (V.health v.new) result }
-    ensures sound { V.sound v.new }
+    ensures read { ReadBy V.seen V.health V.sound V.passes (LooksUp shape.now) v.old v.new result }
 {
     read_inode(v, shape, i)
 }
@@ -198,15 +183,11 @@ pub fn blocks_of<V: Blocks>(
     shape: &VolumeShape,
     i: Ino,
 ) -> Result<BlockList, ReadFail>
-    requires sound { V.sound v.old }
-    requires can { CanLookUp shape.now (V.seen v.old) }
+    requires can { CanRead V.seen V.sound (CanLookUp shape.now) v.old }
     requires ino { IsIno shape.now i.0 }
     requires used { 0 < inode_kind (V.seen v.old).words i.0 }
     ensures value { IfOk result (λ blocks. numbers blocks ≡ node_blocks (placed_at (V.seen v.old).words i.0)) }
-    ensures looks { LooksUp shape.now (V.seen v.old) (V.seen v.new) }
-    ensures passes { V.passes v.old v.new }
-    ensures ends { EndsBy (V.health v.old) (V.health v.new) (IsErrOf result ReadFail.Fault) (IsErrOf result ReadFail.Stopped) }
-    ensures sound { V.sound v.new }
+    ensures read { FilledBy V.seen V.health V.sound V.passes (LooksUp shape.now) v.old v.new result }
 {
     let inode = look_inode(v, shape, i)?;
     let count = page_count(inode.size);

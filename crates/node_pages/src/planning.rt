@@ -1,7 +1,8 @@
 //! The growth of a node, prepared: its new blocks are made zero and named, and the change that makes them count is made up.
 
 ghost use Rattle.std.specs.Prelude.{◌≡◌, ◌-◌, ◌%◌, ◌<◌, ◌≤◌, ℕ, length, slice_index, IfOk, IsErrOf};
-ghost use Rattle.rio_base.specs.Blocks.{Ends, EndsBy};
+ghost use Rattle.rio_base.specs.Frames.{CanRead, ReadBy};
+ghost use Rattle.rio_base.specs.Blocks.{EndsBy};
 ghost use Rattle.rio_base.specs.Layout.{IsIno};
 ghost use Rattle.rio_base.specs.Volume.{Goes};
 ghost use Rattle.rio_model.specs.Placed.{AtPage, IsFree, placed_at, volume_layout};
@@ -31,15 +32,11 @@ fn last_number<V: Blocks>(
     i: Ino,
     inode: &Inode,
 ) -> Result<u32, VolFail>
-    requires sound { V.sound v.old }
-    requires can { CanLookUp shape.now (V.seen v.old) }
+    requires can { CanRead V.seen V.sound (CanLookUp shape.now) v.old }
     requires ino { IsIno shape.now i.0 }
     requires inode { PlansFor (V.seen v.old).words i.0 inode.now }
     ensures value { IfOk result (λ x. 24 < pages inode.now.size → pages inode.now.size % 2 ≡ 1 → x ≡ (placed_at (V.seen v.old).words i.0).block (AtPage (pages inode.now.size - 1))) }
-    ensures looks { LooksUp shape.now (V.seen v.old) (V.seen v.new) }
-    ensures passes { V.passes v.old v.new }
-    ensures ends { Ends (V.health v.old) (V.health v.new) result }
-    ensures sound { V.sound v.new }
+    ensures read { ReadBy V.seen V.health V.sound V.passes (LooksUp shape.now) v.old v.new result }
 {
     let have = page_count(inode.size);
     if have <= DIRECT_PAGES || have % 2 == 0 {

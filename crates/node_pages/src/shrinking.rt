@@ -1,7 +1,7 @@
 //! The shrinking of a node, prepared.
 
-ghost use Rattle.std.specs.Prelude.{◌≡◌, ◌≤◌, IfOk, IsErrOf};
-ghost use Rattle.rio_base.specs.Blocks.{EndsBy};
+ghost use Rattle.std.specs.Prelude.{◌≤◌, IfOk, IsErrOf};
+ghost use Rattle.rio_base.specs.Frames.{CanRead, HasRead};
 ghost use Rattle.rio_base.specs.Layout.{IsIno};
 ghost use Rattle.rio_model.specs.Placed.{volume_layout};
 ghost use Rattle.rio_model.specs.VolumeRules.{IsLaid, SizeFits};
@@ -27,19 +27,15 @@ pub fn plan_shrink<V: Blocks>(
     inode: &Inode,
     len: u64,
 ) -> Result<SizeChange, SizeFail>
-    requires sound { V.sound v.old }
-    requires can { CanLookUp shape.now (V.seen v.old) }
+    requires can { CanRead V.seen V.sound (CanLookUp shape.now) v.old }
     requires laid { IsLaid (volume_layout shape.now (V.seen v.old).words) }
     requires ino { IsIno shape.now i.0 }
     requires inode { PlansFor (V.seen v.old).words i.0 inode.now }
     requires less { len ≤ inode.now.size }
     requires fits { SizeFits inode.now.kind len }
     ensures ok { IfOk result (λ c. Shrinks shape.now (V.seen v.old).words i.0 inode.now len c) }
-    ensures looks { LooksUp shape.now (V.seen v.old) (V.seen v.new) }
-    ensures passes { V.passes v.old v.new }
+    ensures read { HasRead V.seen V.health V.sound V.passes (LooksUp shape.now) v.old v.new (IsErrOf result SizeFail.Fault) (IsErrOf result SizeFail.Stopped) }
     ensures other { Unrefused result }
-    ensures ends { EndsBy (V.health v.old) (V.health v.new) (IsErrOf result SizeFail.Fault) (IsErrOf result SizeFail.Stopped) }
-    ensures sound { V.sound v.new }
 {
     let first = page_count(len);
     let end = page_count(inode.size);

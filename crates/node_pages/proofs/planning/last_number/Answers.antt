@@ -1,6 +1,7 @@
+use Rattle.rio_base.proofs.Frames.{read_none, read_ok, read_value, read_on}
 use Rattle.node_pages.proofs.LookingUpRules.{look_refl}
-use Rattle.node_pages.proofs.EndsOn.{ends_vol, ends_vol_ok, if_err, vol_still}
-use Rattle.node_pages.proofs.Common.{ℕ, ◌-◌, ◌/◌, ◌∙◌, ap, arith, AtPage, AtTable, first_table, pages, err_from_is_err_and}
+use Rattle.node_pages.proofs.EndsOn.{if_err}
+use Rattle.node_pages.proofs.Common.{ℕ, ◌-◌, ◌/◌, ◌∙◌, ap, arith, AtPage, AtTable, first_table, pages}
 use Rattle.rio_base.specs.Layout.{half}
 use Rattle.node_pages.specs.Changes.{given_node}
 use Rattle.node_pages.proofs.Given.{given_of}
@@ -37,20 +38,17 @@ returns-clause-value g c = λ many odd.
     let last = pages given.size - 1 in
     later_value f i last c.in_ok-word.word _ ((c.page_count-have.result - 1 - 24) / 2) (omega (arith, many)) (all.back (AtPage last) (record { used = all.used; within = (omega (arith, many)) })) (omega (arith, is)) c.in_ok-word.ensures.value (c.number_in.ensures ∙ ap (λ (h : ℕ). half c.in_ok-word.word (h - 1)) is)
 
-pub returns-clause-ends : goal.returns-clause-ends
-returns-clause-ends g c = ends_vol_ok _ _ _ c.table_word.ensures.ends.later c.in_ok-word.ensures.ends.cause
-
-pub returns-in_err-word-clause-ends : goal.returns-in_err-word-clause-ends
-returns-in_err-word-clause-ends g c = let p = err_from_is_err_and c.from_residual.result c.from_residual.ensures.1 in ends_vol _ _ c.table_word.result c.from_residual.result _ p.0 c.in_err-word.was p.1 p.2 c.table_word.ensures.ends
-
 pub returns-in_err-word-clause-value : goal.returns-in_err-word-clause-value
 returns-in_err-word-clause-value g c = if_err c.from_residual.result _ c.from_residual.ensures.0
 
-pub returns-then-have-le-DIRECT_PAGES-clause-ends : goal.returns-then-have-le-DIRECT_PAGES-clause-ends
-returns-then-have-le-DIRECT_PAGES-clause-ends g c = vol_still _ _
+pub returns-clause-read : goal.returns-clause-read
+returns-clause-read g c = read_value _ (read_ok c.table_word.result _ c.in_ok-word.was c.table_word.ensures.read)
 
-pub returns-then-have-le-DIRECT_PAGES-clause-looks : goal.returns-then-have-le-DIRECT_PAGES-clause-looks
-returns-then-have-le-DIRECT_PAGES-clause-looks g c = look_refl c.args.shape.now _ c.requires.can
+pub returns-in_err-word-clause-read : goal.returns-in_err-word-clause-read
+returns-in_err-word-clause-read g c = read_on c.table_word.result c.from_residual.result c.in_err-word.was c.from_residual.ensures.1 c.table_word.ensures.read
 
-pub returns-then-have-le-DIRECT_PAGES-clause-passes : goal.returns-then-have-le-DIRECT_PAGES-clause-passes
-returns-then-have-le-DIRECT_PAGES-clause-passes g c = g.met.V.Blocks.passes_refl _
+pub returns-then-have-le-DIRECT_PAGES-clause-read : goal.returns-then-have-le-DIRECT_PAGES-clause-read
+returns-then-have-le-DIRECT_PAGES-clause-read g c = read_value _ (read_none (g.met.V.Blocks.passes_refl _) (look_refl c.args.shape.now _ c.requires.can.meets) c.requires.can.keeps)
+
+pub table_word-requires-clause-can : goal.table_word-requires-clause-can
+table_word-requires-clause-can g c = c.requires.can

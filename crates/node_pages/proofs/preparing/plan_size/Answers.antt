@@ -24,7 +24,7 @@ returns-then-len-inode-clause-ok g c =
     let away = λ (q : ℕ) (few : q < length skip). c.requires.skip q (subst (λ (m : ℕ). q < m) (as_many c.args.skip.now) few) in
     let y = g.V.Blocks.seen c.plan_shrink.new.v in
     let j = g.V.Volume.kept c.plan_shrink.new.v in
-    let looked : LeavesInUse (volume_layout shape x.words) x k y j = leaves_looked shape _ _ _ _ x y k j c.requires.ready c.plan_shrink.ensures.looks (g.met.V.Volume.passes_keeps _ _ c.plan_shrink.ensures.passes) in
+    let looked : LeavesInUse (volume_layout shape x.words) x k y j = leaves_looked shape _ _ _ _ x y k j c.requires.ready c.plan_shrink.ensures.read.looks (g.met.V.Volume.passes_keeps _ _ c.plan_shrink.ensures.read.passed) in
     if_ok_map (Shrinks shape x.words i given len) (PlansSize shape x.words y j i given len skip) c.plan_shrink.result (λ change h. plans_shrunk shape x k y j i given len skip change c.requires.ino c.requires.inode c.if-len-inode.true looked h) c.plan_shrink.ensures.ok
 
 pub returns-then-len-inode-clause-space : goal.returns-then-len-inode-clause-space
@@ -59,7 +59,7 @@ returns-then-len-inode-clause-leaves g c =
     let away = λ (q : ℕ) (few : q < length skip). c.requires.skip q (subst (λ (m : ℕ). q < m) (as_many c.args.skip.now) few) in
     let y = g.V.Blocks.seen c.plan_shrink.new.v in
     let j = g.V.Volume.kept c.plan_shrink.new.v in
-    let looked : LeavesInUse (volume_layout shape x.words) x k y j = leaves_looked shape _ _ _ _ x y k j c.requires.ready c.plan_shrink.ensures.looks (g.met.V.Volume.passes_keeps _ _ c.plan_shrink.ensures.passes) in
+    let looked : LeavesInUse (volume_layout shape x.words) x k y j = leaves_looked shape _ _ _ _ x y k j c.requires.ready c.plan_shrink.ensures.read.looks (g.met.V.Volume.passes_keeps _ _ c.plan_shrink.ensures.read.passed) in
     looked
 
 pub returns-then-len-inode-clause-spared : goal.returns-then-len-inode-clause-spared
@@ -74,12 +74,12 @@ returns-then-len-inode-clause-spared g c =
     let away = λ (q : ℕ) (few : q < length skip). c.requires.skip q (subst (λ (m : ℕ). q < m) (as_many c.args.skip.now) few) in
     let y = g.V.Blocks.seen c.plan_shrink.new.v in
     let j = g.V.Volume.kept c.plan_shrink.new.v in
-    let looked : LeavesInUse (volume_layout shape x.words) x k y j = leaves_looked shape _ _ _ _ x y k j c.requires.ready c.plan_shrink.ensures.looks (g.met.V.Volume.passes_keeps _ _ c.plan_shrink.ensures.passes) in
-    spares_looked shape _ _ _ _ skip x k y j away c.plan_shrink.ensures.looks (g.met.V.Volume.passes_keeps _ _ c.plan_shrink.ensures.passes)
+    let looked : LeavesInUse (volume_layout shape x.words) x k y j = leaves_looked shape _ _ _ _ x y k j c.requires.ready c.plan_shrink.ensures.read.looks (g.met.V.Volume.passes_keeps _ _ c.plan_shrink.ensures.read.passed) in
+    spares_looked shape _ _ _ _ skip x k y j away c.plan_shrink.ensures.read.looks (g.met.V.Volume.passes_keeps _ _ c.plan_shrink.ensures.read.passed)
 
 pub returns-then-len-inode-clause-goes : goal.returns-then-len-inode-clause-goes
 returns-then-len-inode-clause-goes g c =
-    (g.met.V.Volume.passes_keeps _ _ c.plan_shrink.ensures.passes).goes
+    (g.met.V.Volume.passes_keeps _ _ c.plan_shrink.ensures.read.passed).goes
 
 pub returns-in_err-taken-clause-too_large : goal.returns-in_err-taken-clause-too_large
 returns-in_err-taken-clause-too_large g c =
@@ -348,11 +348,11 @@ plan_shrink-requires-clause-less g c = c.if-len-inode.true
 pub plan_shrink-requires-clause-fits : goal.plan_shrink-requires-clause-fits
 plan_shrink-requires-clause-fits g c = c.requires.fits (omega (arith, c.if-len-gt-LARGEST_SIZE.false))
 
-pub plan_shrink-requires-clause-can : goal.plan_shrink-requires-clause-can
-plan_shrink-requires-clause-can g c = can_look_up c.args.shape.now _ c.requires.ready.order.has_shape c.requires.ready.order.mapped c.requires.ready.order.named
-
 pub plan_growth-requires-clause-grows : goal.plan_growth-requires-clause-grows
 plan_growth-requires-clause-grows g c = omega (arith, c.if-len-inode.false)
 
 pub plan_growth-requires-clause-fits : goal.plan_growth-requires-clause-fits
 plan_growth-requires-clause-fits g c = c.requires.fits (omega (arith, c.if-len-gt-LARGEST_SIZE.false))
+
+pub plan_shrink-requires-clause-can : goal.plan_shrink-requires-clause-can
+plan_shrink-requires-clause-can g c = record { keeps = c.requires.sound; meets = can_look_up c.args.shape.now _ c.requires.ready.order.has_shape c.requires.ready.order.mapped c.requires.ready.order.named }

@@ -1,3 +1,4 @@
+use Rattle.rio_base.proofs.Frames.{read_as}
 use Rattle.node_pages.proofs.EndsOn.{if_err}
 use Rattle.node_pages.proofs.Common.{◌≡◌, ◌-◌, Bool, refl, ap, sym, subst, ◌∙◌, arith, nat_lt, Contains, err_from_is_err_and, numbers, pages, tables}
 use Rattle.node_pages.specs.Changes.{given_node}
@@ -8,19 +9,6 @@ use Rattle.node_pages.proofs.Freed.{lost_back, lost_blocks, lost_in, lost_number
 use Rattle.node_pages.proofs.Given.{given_of}
 use Rattle.node_pages.proofs.Shrunk.{MadeShrunk, made_shrinks}
 use Rattle.node_pages.proofs.shrinking.plan_shrink.Goals as goal
-
-pub returns-in_err-freed-clause-ends : goal.returns-in_err-freed-clause-ends
-returns-in_err-freed-clause-ends g c =
-    let p = err_from_is_err_and c.from_residual.result c.from_residual.ensures.1 in
-    ends_size _ _ _ c.from_residual.result _ p.0 c.in_err-freed.was p.1 p.2 c.page_blocks.ensures.ends
-
-pub returns-in_err-push_table-clause-ends : goal.returns-in_err-push_table-clause-ends
-returns-in_err-push_table-clause-ends g c =
-    let p = err_from_is_err_and c.from_residual-in_err-push_table.result c.from_residual-in_err-push_table.ensures.1 in
-    ends_size_memory _ _ _ c.from_residual-in_err-push_table.result _ p.0 c.in_ok-freed.was p.1 p.2 c.page_blocks.ensures.ends
-
-pub returns-clause-ends : goal.returns-clause-ends
-returns-clause-ends g c = ends_size_ok _ _ _ _ _ c.in_ok-freed.was c.page_blocks.ensures.ends
 
 pub returns-clause-ok : goal.returns-clause-ok
 returns-clause-ok g c =
@@ -77,3 +65,17 @@ returns-in_err-freed-clause-ok g c = if_err c.from_residual.result _ c.from_resi
 
 pub returns-in_err-push_table-clause-ok : goal.returns-in_err-push_table-clause-ok
 returns-in_err-push_table-clause-ok g c = if_err c.from_residual-in_err-push_table.result _ c.from_residual-in_err-push_table.ensures.0
+
+pub returns-in_err-freed-clause-read : goal.returns-in_err-freed-clause-read
+returns-in_err-freed-clause-read g c = read_as c.page_blocks.ensures.read (let p = err_from_is_err_and c.from_residual.result c.from_residual.ensures.1 in
+    ends_size _ _ _ c.from_residual.result _ p.0 c.in_err-freed.was p.1 p.2 c.page_blocks.ensures.read.ends)
+
+pub returns-in_err-push_table-clause-read : goal.returns-in_err-push_table-clause-read
+returns-in_err-push_table-clause-read g c = read_as c.page_blocks.ensures.read (let p = err_from_is_err_and c.from_residual-in_err-push_table.result c.from_residual-in_err-push_table.ensures.1 in
+    ends_size_memory _ _ _ c.from_residual-in_err-push_table.result _ p.0 c.in_ok-freed.was p.1 p.2 c.page_blocks.ensures.read.ends)
+
+pub returns-clause-read : goal.returns-clause-read
+returns-clause-read g c = read_as c.page_blocks.ensures.read (ends_size_ok _ _ _ _ _ c.in_ok-freed.was c.page_blocks.ensures.read.ends)
+
+pub page_blocks-requires-clause-can : goal.page_blocks-requires-clause-can
+page_blocks-requires-clause-can g c = c.requires.can

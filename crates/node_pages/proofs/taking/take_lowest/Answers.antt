@@ -7,18 +7,18 @@ use Rattle.node_pages.proofs.Ends.{unrefused_ok}
 use Rattle.node_pages.proofs.taking.take_lowest.Goals as goal
 
 pub returns-in_err-blocks-clause-looks : goal.returns-in_err-blocks-clause-looks
-returns-in_err-blocks-clause-looks g c = looked_low c.args.shape.now _ _ 1 (can_look_up c.args.shape.now _ c.requires.ready.order.has_shape c.requires.ready.order.mapped c.requires.ready.order.named) (omega arith) c.take.ensures.looks c.take.ensures.caches
+returns-in_err-blocks-clause-looks g c = looked_low c.args.shape.now _ _ 1 (can_look_up c.args.shape.now _ c.requires.ready.order.has_shape c.requires.ready.order.mapped c.requires.ready.order.named) (omega arith) c.take.ensures.read.looks.looks c.take.ensures.caches
 
 pub returns-clause-looks : goal.returns-clause-looks
-returns-clause-looks g c = looked_low c.args.shape.now _ _ 1 (can_look_up c.args.shape.now _ c.requires.ready.order.has_shape c.requires.ready.order.mapped c.requires.ready.order.named) (omega arith) c.take.ensures.looks c.take.ensures.caches
+returns-clause-looks g c = looked_low c.args.shape.now _ _ 1 (can_look_up c.args.shape.now _ c.requires.ready.order.has_shape c.requires.ready.order.mapped c.requires.ready.order.named) (omega arith) c.take.ensures.read.looks.looks c.take.ensures.caches
 
 pub returns-in_err-blocks-clause-ends : goal.returns-in_err-blocks-clause-ends
 returns-in_err-blocks-clause-ends g c =
     let p = err_from_is_err_and c.from_residual.result c.from_residual.ensures.1 in
-    ends_take _ _ _ c.from_residual.result _ p.0 c.in_err-blocks.was p.1 p.2 c.take.ensures.ends
+    ends_take _ _ _ c.from_residual.result _ p.0 c.in_err-blocks.was p.1 p.2 c.take.ensures.read.ends
 
 pub returns-clause-ends : goal.returns-clause-ends
-returns-clause-ends g c = ends_taken _ _ c.take.result c.in_ok-blocks.blocks _ c.in_ok-blocks.was c.take.ensures.ends
+returns-clause-ends g c = ends_taken _ _ c.take.result c.in_ok-blocks.blocks _ c.in_ok-blocks.was c.take.ensures.read.ends
 
 pub returns-in_err-blocks-clause-no_space : goal.returns-in_err-blocks-clause-no_space
 returns-in_err-blocks-clause-no_space g c =
@@ -59,3 +59,6 @@ returns-clause-no_space g c = λ is. absurd ((unrefused_ok _).0 is)
 
 pub returns-clause-small : goal.returns-clause-small
 returns-clause-small g c = λ is. (unrefused_ok _).1 is
+
+pub take-requires : goal.take-requires
+take-requires g c = record { can = record { keeps = c.requires.sound; meets = c.requires.ready.order.has_shape } }
