@@ -1,14 +1,17 @@
 -- A directory that can be read, and stays so while it is.
+use Rattle.rio_model.specs.VolumeReady.{LooksNamed}
+use Rattle.rio_base.proofs.Frames.{read_more}
+use Rattle.rio_base.specs.Frames.{HasRead}
 use Rattle.directories.proofs.Common.{◌≡◌, ◌≢◌, ℕ, ◌/◌, ◌%◌, ◌*◌, ◌<◌, ◌≤◌, ◌⊎◌, ◌&&◌, Bool, cond, true, false, refl, sym, ap, subst, ◌∙◌, arith, inl, inr, None, Option, Some, cases_eq, nat_tests, PageName, VolumeShape, caches_by_one, BlockWords, Caches, Looks, Seen, IsIno, HasShape, reserved, Held, held, held_of, held_ino, AtPage, AtTable, HasSlot, Layout, Owns, placed_at, volume_layout, AllNamed, Bears, EntryRule, IsMapped, LooksUp, named_on, List, ◌+◌, nat_lt, Placed, slice_index}
 use Rattle.std.specs.Prelude.{nat_le}
 use Rattle.rio_base.proofs.BlockRules.{shape_beside}
-use Rattle.rio_base.specs.Blocks.{CanName, SamePage, IsRun}
+use Rattle.rio_base.specs.Blocks.{CanName, SamePage, IsRun, Health}
 use Rattle.rio_model.specs.Held.{nothing}
 use Rattle.rio_model.proofs.PlacedRules.{numbered_of, table_page}
 use Rattle.rio_model.specs.VolumeRules.{IsNumbered}
 use Rattle.node_pages.specs.LookingUp.{CanLookUp, TablesUnnamed}
 use Rattle.node_pages.proofs.LookingUpRules.{can_look_up}
-use Rattle.directories.specs.Reading.{CanReadDir}
+use Rattle.directories.specs.Reading.{CanReadDir, CanReadRows}
 
 pub can_look : (shape : VolumeShape) (x : Seen) (d : ℕ) → CanReadDir shape x d → CanLookUp shape x
 can_look shape x d h = can_look_up shape x h.has_shape h.mapped h.named
@@ -22,6 +25,14 @@ can_stays shape x y d h looks = record {
   ino = h.ino;
   dir = subst (λ f. (placed_at f d).kind ≡ 1) (sym looks.looks.words) h.dir;
 }
+
+-- block numbers were looked up where all names are right: they still are
+pub named_read : {V : Type 0} {seen : V → Seen} {health : V → Health} {sound : V → Type 0} {passes : V → V → Type 0} {shape : VolumeShape} {x y : V} {fault stop : Type 0} → IsMapped shape (seen x).words → AllNamed (volume_layout shape (seen x).words) (seen x) → HasRead seen health sound passes (LooksUp shape) x y fault stop → HasRead seen health sound passes (LooksNamed shape) x y fault stop
+named_read {seen = seen} {shape = shape} {x = x} {y = y} mapped named h = read_more (record { looks = h.looks.looks; has_shape = h.looks.still.has_shape; named = named_on shape (seen x) (seen y) mapped named h.looks }) h
+
+-- where one directory can be read, any can
+pub rows_of : {shape : VolumeShape} {x : Seen} {d : ℕ} → CanReadDir shape x d → CanReadRows shape x
+rows_of h = record { has_shape = h.has_shape; mapped = h.mapped; named = h.named; entries = h.entries }
 
 -- what its pages may be asked for as
 pub can_page : (shape : VolumeShape) (x : Seen) (d p b : ℕ) → CanReadDir shape x d → HasSlot (placed_at x.words d) (AtPage p) → b ≡ (placed_at x.words d).block (AtPage p) → CanName x b None

@@ -13,6 +13,13 @@ use Rattle.rio_model.specs.VolumeRules.{EntryRule, IsMapped}
 use Rattle.directories.specs.Entries.{name_in}
 use Rattle.directories.specs.Rows.{IsEntry}
 
+-- the rules 1 to 8 hold, and cached pages bear their names: any directory can be read
+pub record CanReadRows (shape : VolumeShape) (x : Seen) : Type 0 where
+  pub has_shape : HasShape shape x
+  pub mapped : IsMapped shape x.words
+  pub named : AllNamed (volume_layout shape x.words) x
+  pub entries : EntryRule (held_of shape x.words)
+
 -- the rules 1 to 8 hold, cached pages bear their names, and inode d is a directory
 pub record CanReadDir (shape : VolumeShape) (x : Seen) (d : ℕ) : Type 0 where
   pub has_shape : HasShape shape x

@@ -1,16 +1,14 @@
 //! A name of a directory, looked up.
 
-ghost use Rattle.std.specs.Prelude.{◌≡◌, ◌≢◌, ◌+◌, ◌*◌, ◌/◌, ◌<◌, ◌≤◌, ℕ, None, length, slice_index, IfOk, IfSome};
-ghost use Rattle.rio_base.specs.Blocks.{CanName, Caches, Ends, Looks};
-ghost use Rattle.rio_base.specs.Shapes.{HasShape};
+ghost use Rattle.std.specs.Prelude.{◌≡◌, ◌≢◌, ◌*◌, ◌<◌, ◌≤◌, ℕ, None, length, slice_index, IfOk, IfSome};
+ghost use Rattle.rio_base.specs.Frames.{CanRead, ReadBy};
+ghost use Rattle.rio_base.specs.Blocks.{CanName, Caches, Looks};
 ghost use Rattle.rio_base.specs.NodeKinds.{dir_kind};
 ghost use Rattle.rio_model.specs.Held.{held_of};
-ghost use Rattle.rio_model.specs.Placed.{AtPage, Owns, placed_at, volume_layout};
-ghost use Rattle.rio_model.specs.VolumeReady.{AllNamed};
-ghost use Rattle.rio_model.specs.VolumeRules.{EntryRule, IsMapped};
+ghost use Rattle.rio_model.specs.VolumeReady.{LooksNamed};
 ghost use Rattle.inode_table.specs.Inodes.{IsInode};
 ghost use Rattle.node_pages.specs.LookingUp.{LooksUp};
-ghost use Rattle.directories.specs.Reading.{CanReadDir, FindsIn, FindsInPage};
+ghost use Rattle.directories.specs.Reading.{CanReadDir, FindsIn, FindsInPage, CanReadRows};
 ghost use Rattle.directories.specs.Entries.{IsKey, name_in};
 ghost use Rattle.directories.specs.Rows.{Finds, IsEntry};
 
@@ -79,11 +77,8 @@ fn find_in_copy<V: Blocks>(
     requires few { count ≤ 64 }
     requires key { IsKey name.now key.now }
     ensures value { IfOk result (FindsIn ((V.seen v.old).words b.0) count name.now) }
-    ensures looks { Looks (V.seen v.old) (V.seen v.new) }
+    ensures read { ReadBy V.seen V.health V.sound V.passes Looks v.old v.new result }
     ensures caches { Caches (V.seen v.old) (V.seen v.new) b.0 None }
-    ensures passes { V.passes v.old v.new }
-    ensures ends { Ends (V.health v.old) (V.health v.new) result }
-    ensures sound { V.sound v.new }
 {
     let mut words = [0; 512];
     v.read_run(b, None, 0, &mut words)?;
@@ -105,11 +100,8 @@ fn find_in_block<V: Blocks>(
     requires few { count ≤ 64 }
     requires key { IsKey name.now key.now }
     ensures value { IfOk result (FindsIn ((V.seen v.old).words b.0) count name.now) }
-    ensures looks { Looks (V.seen v.old) (V.seen v.new) }
+    ensures read { ReadBy V.seen V.health V.sound V.passes Looks v.old v.new result }
     ensures caches { Caches (V.seen v.old) (V.seen v.new) b.0 None }
-    ensures passes { V.passes v.old v.new }
-    ensures ends { Ends (V.health v.old) (V.health v.new) result }
-    ensures sound { V.sound v.new }
 {
     v.word(b, None, 0)?;
     if let Some(words) = v.page(b) {
@@ -128,17 +120,13 @@ fn find_in_page<V: Blocks>(
     name: &[u8],
     key: &NameKey,
 ) -> Result<Option<(Ino, u32)>, VolFail>
-    requires sound { V.sound v.old }
-    requires can { CanReadDir shape.now (V.seen v.old) dir.0 }
+    requires can { CanRead V.seen V.sound (λ x. CanReadDir shape.now x dir.0) v.old }
     requires inode { IsInode (V.seen v.old).words dir.0 inode.now }
     requires page { 4096 * p < inode.now.size }
     requires key { IsKey name.now key.now }
     ensures value { IfOk result (FindsInPage (held_of shape.now (V.seen v.old).words dir.0) p name.now) }
-    ensures looks { LooksUp shape.now (V.seen v.old) (V.seen v.new) }
+    ensures read { ReadBy V.seen V.health V.sound V.passes (LooksUp shape.now) v.old v.new result }
     ensures can { CanReadDir shape.now (V.seen v.new) dir.0 }
-    ensures passes { V.passes v.old v.new }
-    ensures ends { Ends (V.health v.old) (V.health v.new) result }
-    ensures sound { V.sound v.new }
 {
     let b = page_block(v, shape, dir, inode, p)?;
     let count = entries_in_page(inode.size, p);
@@ -154,15 +142,11 @@ fn find_in_pages<V: Blocks>(
     name: &[u8],
     key: &NameKey,
 ) -> Result<Option<(Ino, u32)>, VolFail>
-    requires sound { V.sound v.old }
-    requires can { CanReadDir shape.now (V.seen v.old) dir.0 }
+    requires can { CanRead V.seen V.sound (λ x. CanReadDir shape.now x dir.0) v.old }
     requires inode { IsInode (V.seen v.old).words dir.0 inode.now }
     requires key { IsKey name.now key.now }
     ensures value { IfOk result (Finds (held_of shape.now (V.seen v.old).words dir.0) name.now) }
-    ensures looks { LooksUp shape.now (V.seen v.old) (V.seen v.new) }
-    ensures passes { V.passes v.old v.new }
-    ensures ends { Ends (V.health v.old) (V.health v.new) result }
-    ensures sound { V.sound v.new }
+    ensures read { ReadBy V.seen V.health V.sound V.passes (LooksUp shape.now) v.old v.new result }
 {
     let pages = inode.size.div_ceil(4096) as u32;
     for p in 0..pages {
@@ -182,20 +166,11 @@ pub fn find_at_inode<V: Blocks>(
     inode: &Inode,
     name: &[u8],
 ) -> Result<Option<(Ino, u32)>, VolFail>
-    requires sound { V.sound v.old }
-    requires shape { HasShape shape.now (V.seen v.old) }
-    requires mapped { IsMapped shape.now (V.seen v.old).words }
-    requires named { AllNamed (volume_layout shape.now (V.seen v.old).words) (V.seen v.old) }
-    requires entries { EntryRule (held_of shape.now (V.seen v.old).words) }
+    requires can { CanRead V.seen V.sound (CanReadRows shape.now) v.old }
     requires dir { (held_of shape.now (V.seen v.old).words dir.0).kind ≡ dir_kind }
     requires inode { IsInode (V.seen v.old).words dir.0 inode.now }
     ensures value { IfOk result (Finds (held_of shape.now (V.seen v.old).words dir.0) name.now) }
-    ensures looks { Looks (V.seen v.old) (V.seen v.new) }
-    ensures shape { HasShape shape.now (V.seen v.new) }
-    ensures named { AllNamed (volume_layout shape.now (V.seen v.old).words) (V.seen v.new) }
-    ensures passes { V.passes v.old v.new }
-    ensures ends { Ends (V.health v.old) (V.health v.new) result }
-    ensures sound { V.sound v.new }
+    ensures read { ReadBy V.seen V.health V.sound V.passes (LooksNamed shape.now) v.old v.new result }
 {
     if name.is_empty() {
         return Ok(None);
@@ -215,19 +190,10 @@ pub fn find<V: Blocks>(
     dir: Ino,
     name: &[u8],
 ) -> Result<Option<(Ino, u32)>, VolFail>
-    requires sound { V.sound v.old }
-    requires shape { HasShape shape.now (V.seen v.old) }
-    requires mapped { IsMapped shape.now (V.seen v.old).words }
-    requires named { AllNamed (volume_layout shape.now (V.seen v.old).words) (V.seen v.old) }
-    requires entries { EntryRule (held_of shape.now (V.seen v.old).words) }
+    requires can { CanRead V.seen V.sound (CanReadRows shape.now) v.old }
     requires dir { (held_of shape.now (V.seen v.old).words dir.0).kind ≡ dir_kind }
     ensures value { IfOk result (Finds (held_of shape.now (V.seen v.old).words dir.0) name.now) }
-    ensures looks { Looks (V.seen v.old) (V.seen v.new) }
-    ensures shape { HasShape shape.now (V.seen v.new) }
-    ensures named { AllNamed (volume_layout shape.now (V.seen v.old).words) (V.seen v.new) }
-    ensures passes { V.passes v.old v.new }
-    ensures ends { Ends (V.health v.old) (V.health v.new) result }
-    ensures sound { V.sound v.new }
+    ensures read { ReadBy V.seen V.health V.sound V.passes (LooksNamed shape.now) v.old v.new result }
 {
     let inode = dir_inode(v, shape, dir)?;
     find_at_inode(v, shape, dir, &inode, name)
@@ -243,21 +209,12 @@ pub fn row_at<V: Blocks>(
     slot: u32,
     name: &[u8],
 ) -> Result<Option<Ino>, VolFail>
-    requires sound { V.sound v.old }
-    requires shape { HasShape shape.now (V.seen v.old) }
-    requires mapped { IsMapped shape.now (V.seen v.old).words }
-    requires named { AllNamed (volume_layout shape.now (V.seen v.old).words) (V.seen v.old) }
-    requires entries { EntryRule (held_of shape.now (V.seen v.old).words) }
+    requires can { CanRead V.seen V.sound (CanReadRows shape.now) v.old }
     requires dir { (held_of shape.now (V.seen v.old).words dir.0).kind ≡ dir_kind }
     requires inode { IsInode (V.seen v.old).words dir.0 inode.now }
     ensures value { IfOk result (λ found. IfSome found (λ i. IsEntry (held_of shape.now (V.seen v.old).words dir.0) slot name.now i.0)) }
     ensures none { IfOk result (λ found. found ≡ None → (i : ℕ) → IsEntry (held_of shape.now (V.seen v.old).words dir.0) slot name.now i → ⊥) }
-    ensures looks { Looks (V.seen v.old) (V.seen v.new) }
-    ensures shape { HasShape shape.now (V.seen v.new) }
-    ensures named { AllNamed (volume_layout shape.now (V.seen v.old).words) (V.seen v.new) }
-    ensures passes { V.passes v.old v.new }
-    ensures ends { Ends (V.health v.old) (V.health v.new) result }
-    ensures sound { V.sound v.new }
+    ensures read { ReadBy V.seen V.health V.sound V.passes (LooksNamed shape.now) v.old v.new result }
 {
     if name.is_empty() {
         return Ok(None);

@@ -1,14 +1,12 @@
 //! The rows of a directory, read to be held in memory.
 
-ghost use Rattle.std.specs.Prelude.{◌≡◌, ◌/◌, ◌%◌, ◌^◌, ◌≤◌, slice_index, OnOk, IsErrOf};
+ghost use Rattle.std.specs.Prelude.{◌≡◌, ◌/◌, ◌%◌, ◌^◌, ◌≤◌, slice_index, OnOk};
 ghost use Rattle.std.specs.FinMap.{empty, insert};
-ghost use Rattle.rio_base.specs.Blocks.{EndsBy, Looks};
-ghost use Rattle.rio_base.specs.Shapes.{HasShape};
+ghost use Rattle.directories.specs.Reading.{CanReadRows};
+ghost use Rattle.rio_base.specs.Frames.{CanRead, FilledBy};
 ghost use Rattle.rio_base.specs.NodeKinds.{dir_kind};
 ghost use Rattle.rio_model.specs.Held.{held_of};
-ghost use Rattle.rio_model.specs.Placed.{volume_layout};
-ghost use Rattle.rio_model.specs.VolumeReady.{AllNamed};
-ghost use Rattle.rio_model.specs.VolumeRules.{EntryRule, IsMapped};
+ghost use Rattle.rio_model.specs.VolumeReady.{LooksNamed};
 ghost use Rattle.inode_table.specs.Inodes.{IsInode};
 ghost use Rattle.directories.specs.Entries.{name_in};
 ghost use Rattle.directories.specs.Rows.{HoldsRows, NamesApart};
@@ -41,22 +39,13 @@ pub fn hold_names<V: Blocks>(
     inode: &Inode,
     names: &mut DirNames,
 ) -> Result<(), ReadFail>
-    requires sound { V.sound v.old }
-    requires shape { HasShape shape.now (V.seen v.old) }
-    requires mapped { IsMapped shape.now (V.seen v.old).words }
-    requires named { AllNamed (volume_layout shape.now (V.seen v.old).words) (V.seen v.old) }
-    requires entries { EntryRule (held_of shape.now (V.seen v.old).words) }
+    requires can { CanRead V.seen V.sound (CanReadRows shape.now) v.old }
     requires dir { (held_of shape.now (V.seen v.old).words dir.0).kind ≡ dir_kind }
     requires inode { IsInode (V.seen v.old).words dir.0 inode.now }
     requires apart { NamesApart (held_of shape.now (V.seen v.old).words dir.0) }
     requires blank { names.old ≡ empty }
     ensures value { OnOk result (HoldsRows (held_of shape.now (V.seen v.old).words dir.0) names.new) }
-    ensures looks { Looks (V.seen v.old) (V.seen v.new) }
-    ensures shape { HasShape shape.now (V.seen v.new) }
-    ensures named { AllNamed (volume_layout shape.now (V.seen v.old).words) (V.seen v.new) }
-    ensures passes { V.passes v.old v.new }
-    ensures ends { EndsBy (V.health v.old) (V.health v.new) (IsErrOf result ReadFail.Fault) (IsErrOf result ReadFail.Stopped) }
-    ensures sound { V.sound v.new }
+    ensures read { FilledBy V.seen V.health V.sound V.passes (LooksNamed shape.now) v.old v.new result }
 {
     let count = (inode.size / ENTRY_BYTES) as u32;
     for slot in 0..count {

@@ -1,19 +1,17 @@
 //! The names of a directory.
 
-ghost use Rattle.std.specs.Prelude.{◌≡◌, ◌-◌, ◌*◌, ◌/◌, ◌%◌, ◌^◌, ◌<◌, ◌≤◌, [], ◌∷◌, ◌++◌, ℕ, None, length, map, min, slice_index, IfOk, OnOk, IsErrOf};
+ghost use Rattle.std.specs.Prelude.{◌≡◌, ◌-◌, ◌*◌, ◌/◌, ◌%◌, ◌^◌, ◌<◌, ◌≤◌, [], ◌∷◌, ◌++◌, ℕ, None, length, map, min, slice_index, IfOk, OnOk};
 ghost use Rattle.std.specs.List.{range_with_len};
-ghost use Rattle.rio_base.specs.Blocks.{CanName, Caches, EndsBy, Looks};
-ghost use Rattle.rio_base.specs.Shapes.{HasShape};
+ghost use Rattle.rio_base.specs.Frames.{CanRead, FilledBy};
+ghost use Rattle.rio_base.specs.Blocks.{CanName, Caches, Looks};
 ghost use Rattle.rio_model.specs.Held.{entry_name, held_of};
-ghost use Rattle.rio_model.specs.Placed.{volume_layout};
-ghost use Rattle.rio_model.specs.VolumeReady.{AllNamed};
-ghost use Rattle.rio_model.specs.VolumeRules.{EntryRule, IsMapped};
+ghost use Rattle.rio_model.specs.VolumeReady.{LooksNamed};
 ghost use Rattle.inode_table.specs.Inodes.{IsInode};
 ghost use Rattle.node_pages.specs.LookingUp.{LooksUp};
 ghost use Rattle.rio_base.specs.Bytes.{bytes_of};
 ghost use Rattle.rio_base.specs.NodeKinds.{dir_kind};
 ghost use Rattle.directories.specs.Entries.{name_in};
-ghost use Rattle.directories.specs.Reading.{CanReadDir};
+ghost use Rattle.directories.specs.Reading.{CanReadDir, CanReadRows};
 ghost use Rattle.directories.specs.Rows.{ListsNames};
 
 use crate::entries::{ENTRY_BYTES, ENTRY_WORDS, name_length};
@@ -72,11 +70,8 @@ fn push_copied_names<V: Blocks>(
     requires few { count ≤ 64 }
     requires short { (k : ℕ) → k < count → (V.seen v.old).words b.0 (8 * k) / 2 ^ 32 % 2 ^ 8 ≤ 56 }
     ensures value { OnOk result (names.new ≡ names.old ++ map (name_in ((V.seen v.old).words b.0)) (range_with_len 0 count)) }
-    ensures looks { Looks (V.seen v.old) (V.seen v.new) }
+    ensures read { FilledBy V.seen V.health V.sound V.passes Looks v.old v.new result }
     ensures caches { Caches (V.seen v.old) (V.seen v.new) b.0 None }
-    ensures passes { V.passes v.old v.new }
-    ensures ends { EndsBy (V.health v.old) (V.health v.new) (IsErrOf result ReadFail.Fault) (IsErrOf result ReadFail.Stopped) }
-    ensures sound { V.sound v.new }
 {
     let mut words = [0; 512];
     v.read_run(b, None, 0, &mut words)?;
@@ -98,11 +93,8 @@ fn push_block_names<V: Blocks>(
     requires few { count ≤ 64 }
     requires short { (k : ℕ) → k < count → (V.seen v.old).words b.0 (8 * k) / 2 ^ 32 % 2 ^ 8 ≤ 56 }
     ensures value { OnOk result (names.new ≡ names.old ++ map (name_in ((V.seen v.old).words b.0)) (range_with_len 0 count)) }
-    ensures looks { Looks (V.seen v.old) (V.seen v.new) }
+    ensures read { FilledBy V.seen V.health V.sound V.passes Looks v.old v.new result }
     ensures caches { Caches (V.seen v.old) (V.seen v.new) b.0 None }
-    ensures passes { V.passes v.old v.new }
-    ensures ends { EndsBy (V.health v.old) (V.health v.new) (IsErrOf result ReadFail.Fault) (IsErrOf result ReadFail.Stopped) }
-    ensures sound { V.sound v.new }
 {
     v.word(b, None, 0)?;
     if let Some(words) = v.page(b) {
@@ -121,16 +113,12 @@ fn push_page_names<V: Blocks>(
     p: u32,
     names: &mut NameList,
 ) -> Result<(), ReadFail>
-    requires sound { V.sound v.old }
-    requires can { CanReadDir shape.now (V.seen v.old) dir.0 }
+    requires can { CanRead V.seen V.sound (λ x. CanReadDir shape.now x dir.0) v.old }
     requires inode { IsInode (V.seen v.old).words dir.0 inode.now }
     requires page { 4096 * p < inode.now.size }
     ensures value { OnOk result (names.new ≡ names.old ++ map (entry_name (held_of shape.now (V.seen v.old).words dir.0)) (range_with_len (64 * p) (min (inode.now.size / 64 - 64 * p) 64))) }
-    ensures looks { LooksUp shape.now (V.seen v.old) (V.seen v.new) }
+    ensures read { FilledBy V.seen V.health V.sound V.passes (LooksUp shape.now) v.old v.new result }
     ensures can { CanReadDir shape.now (V.seen v.new) dir.0 }
-    ensures passes { V.passes v.old v.new }
-    ensures ends { EndsBy (V.health v.old) (V.health v.new) (IsErrOf result ReadFail.Fault) (IsErrOf result ReadFail.Stopped) }
-    ensures sound { V.sound v.new }
 {
     let b = page_block(v, shape, dir, inode, p)?;
     let count = entries_in_page(inode.size, p);
@@ -145,14 +133,10 @@ fn slot_names<V: Blocks>(
     dir: Ino,
     inode: &Inode,
 ) -> Result<NameList, ReadFail>
-    requires sound { V.sound v.old }
-    requires can { CanReadDir shape.now (V.seen v.old) dir.0 }
+    requires can { CanRead V.seen V.sound (λ x. CanReadDir shape.now x dir.0) v.old }
     requires inode { IsInode (V.seen v.old).words dir.0 inode.now }
     ensures value { IfOk result (λ names. names ≡ map (entry_name (held_of shape.now (V.seen v.old).words dir.0)) (range_with_len 0 (inode.now.size / 64))) }
-    ensures looks { LooksUp shape.now (V.seen v.old) (V.seen v.new) }
-    ensures passes { V.passes v.old v.new }
-    ensures ends { EndsBy (V.health v.old) (V.health v.new) (IsErrOf result ReadFail.Fault) (IsErrOf result ReadFail.Stopped) }
-    ensures sound { V.sound v.new }
+    ensures read { FilledBy V.seen V.health V.sound V.passes (LooksUp shape.now) v.old v.new result }
 {
     let mut names = NameList::with_capacity(alloc, (inode.size / ENTRY_BYTES) as usize)?;
     let pages = inode.size.div_ceil(4096) as u32;
@@ -169,19 +153,10 @@ pub fn names<V: Blocks>(
     shape: &VolumeShape,
     dir: Ino,
 ) -> Result<NameList, ReadFail>
-    requires sound { V.sound v.old }
-    requires shape { HasShape shape.now (V.seen v.old) }
-    requires mapped { IsMapped shape.now (V.seen v.old).words }
-    requires named { AllNamed (volume_layout shape.now (V.seen v.old).words) (V.seen v.old) }
-    requires entries { EntryRule (held_of shape.now (V.seen v.old).words) }
+    requires can { CanRead V.seen V.sound (CanReadRows shape.now) v.old }
     requires dir { (held_of shape.now (V.seen v.old).words dir.0).kind ≡ dir_kind }
     ensures value { IfOk result (ListsNames (held_of shape.now (V.seen v.old).words dir.0)) }
-    ensures looks { Looks (V.seen v.old) (V.seen v.new) }
-    ensures shape { HasShape shape.now (V.seen v.new) }
-    ensures named { AllNamed (volume_layout shape.now (V.seen v.old).words) (V.seen v.new) }
-    ensures passes { V.passes v.old v.new }
-    ensures ends { EndsBy (V.health v.old) (V.health v.new) (IsErrOf result ReadFail.Fault) (IsErrOf result ReadFail.Stopped) }
-    ensures sound { V.sound v.new }
+    ensures read { FilledBy V.seen V.health V.sound V.passes (LooksNamed shape.now) v.old v.new result }
 {
     let inode = dir_inode(v, shape, dir)?;
     let mut names = slot_names(alloc, v, shape, dir, &inode)?;

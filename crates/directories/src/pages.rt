@@ -1,11 +1,10 @@
 //! Pages of a directory: which block each is, and the words of one.
 
-ghost use Rattle.std.specs.Prelude.{◌≡◌, ◌+◌, ◌-◌, ◌*◌, ◌/◌, ◌%◌, ◌<◌, ◌≤◌, ℕ, None, min, length, slice_index, IfOk, OnOk};
-ghost use Rattle.rio_base.specs.Blocks.{CanName, Caches, Ends, IsRun, Looks};
-ghost use Rattle.rio_base.specs.Layout.{IsIno};
+ghost use Rattle.std.specs.Prelude.{◌≡◌, ◌+◌, ◌-◌, ◌*◌, ◌/◌, ◌%◌, ◌<◌, ◌≤◌, ℕ, min, slice_index, IfOk};
+ghost use Rattle.rio_base.specs.Frames.{CanRead, ReadBy};
 ghost use Rattle.rio_model.specs.Placed.{AtPage, HasSlot, placed_at};
 ghost use Rattle.inode_table.specs.Inodes.{IsInode};
-ghost use Rattle.node_pages.specs.LookingUp.{CanLookUp, LooksUp};
+ghost use Rattle.node_pages.specs.LookingUp.{LooksUp};
 ghost use Rattle.directories.specs.Reading.{CanReadDir};
 
 use crate::entries::{ENTRY_WORDS, PAGE_ENTRIES};
@@ -16,14 +15,10 @@ use rio_base::{Block, Blocks, Ino, VolFail, VolumeShape};
 /// The inode of a directory.
 #[tactic(auto, using(crate::proofs::CanRead::can_look))]
 pub fn dir_inode<V: Blocks>(v: &mut V, shape: &VolumeShape, dir: Ino) -> Result<Inode, VolFail>
-    requires sound { V.sound v.old }
-    requires can { CanReadDir shape.now (V.seen v.old) dir.0 }
+    requires can { CanRead V.seen V.sound (λ x. CanReadDir shape.now x dir.0) v.old }
     ensures value { IfOk result (IsInode (V.seen v.old).words dir.0) }
-    ensures looks { LooksUp shape.now (V.seen v.old) (V.seen v.new) }
+    ensures read { ReadBy V.seen V.health V.sound V.passes (LooksUp shape.now) v.old v.new result }
     ensures can { CanReadDir shape.now (V.seen v.new) dir.0 }
-    ensures passes { V.passes v.old v.new }
-    ensures ends { Ends (V.health v.old) (V.health v.new) result }
-    ensures sound { V.sound v.new }
 {
     read_inode(v, shape, dir)
 }
@@ -36,16 +31,12 @@ pub fn page_block<V: Blocks>(
     inode: &Inode,
     p: u32,
 ) -> Result<Block, VolFail>
-    requires sound { V.sound v.old }
-    requires can { CanReadDir shape.now (V.seen v.old) dir.0 }
+    requires can { CanRead V.seen V.sound (λ x. CanReadDir shape.now x dir.0) v.old }
     requires inode { IsInode (V.seen v.old).words dir.0 inode.now }
     requires page { HasSlot (placed_at (V.seen v.old).words dir.0) (AtPage p) }
     ensures value { IfOk result (λ b. b.0 ≡ (placed_at (V.seen v.old).words dir.0).block (AtPage p)) }
-    ensures looks { LooksUp shape.now (V.seen v.old) (V.seen v.new) }
+    ensures read { ReadBy V.seen V.health V.sound V.passes (LooksUp shape.now) v.old v.new result }
     ensures can { CanReadDir shape.now (V.seen v.new) dir.0 }
-    ensures passes { V.passes v.old v.new }
-    ensures ends { Ends (V.health v.old) (V.health v.new) result }
-    ensures sound { V.sound v.new }
 {
     if p < DIRECT_PAGES {
         return Ok(Block(inode.direct[p as usize]));
@@ -61,16 +52,12 @@ pub fn read_entry<V: Blocks>(
     inode: &Inode,
     slot: u32,
 ) -> Result<[u64; ENTRY_WORDS], VolFail>
-    requires sound { V.sound v.old }
-    requires can { CanReadDir shape.now (V.seen v.old) dir.0 }
+    requires can { CanRead V.seen V.sound (λ x. CanReadDir shape.now x dir.0) v.old }
     requires inode { IsInode (V.seen v.old).words dir.0 inode.now }
     requires slot { 64 * slot < inode.now.size }
     ensures words { IfOk result (λ words. (t : ℕ) → t < 8 → slice_index words t ≡ (V.seen v.old).words ((placed_at (V.seen v.old).words dir.0).block (AtPage (slot / 64))) (8 * (slot % 64) + t)) }
-    ensures looks { LooksUp shape.now (V.seen v.old) (V.seen v.new) }
+    ensures read { ReadBy V.seen V.health V.sound V.passes (LooksUp shape.now) v.old v.new result }
     ensures can { CanReadDir shape.now (V.seen v.new) dir.0 }
-    ensures passes { V.passes v.old v.new }
-    ensures ends { Ends (V.health v.old) (V.health v.new) result }
-    ensures sound { V.sound v.new }
 {
     let b = page_block(v, shape, dir, inode, slot / PAGE_ENTRIES)?;
     let mut words = [0; ENTRY_WORDS];

@@ -2,8 +2,9 @@
 
 ghost use Rattle.std.specs.Prelude.{◌≡◌, ◌+◌, ◌*◌, ◌/◌, ◌%◌, ◌<◌, ◌≤◌, ℕ, List, [], length, slice_index, IfOk, OnOk, IsErrOf};
 ghost use Rattle.std.specs.List.{Contains};
+ghost use Rattle.rio_base.specs.Frames.{CanRead, ReadBy};
 ghost use Rattle.rio_base.specs.Bitmap.{free_blocks};
-ghost use Rattle.rio_base.specs.Blocks.{Ends, EndsBy};
+ghost use Rattle.rio_base.specs.Blocks.{EndsBy};
 ghost use Rattle.rio_base.specs.Volume.{Goes};
 ghost use Rattle.rio_base.specs.NodeKinds.{dir_kind};
 ghost use Rattle.rio_model.specs.Held.{HasEntry, held_of};
@@ -40,15 +41,11 @@ fn last_block<V: Blocks>(
     dir: Ino,
     inode: &Inode,
 ) -> Result<Block, VolFail>
-    requires sound { V.sound v.old }
-    requires can { CanReadDir shape.now (V.seen v.old) dir.0 }
+    requires can { CanRead V.seen V.sound (λ x. CanReadDir shape.now x dir.0) v.old }
     requires inode { IsInode (V.seen v.old).words dir.0 inode.now }
     ensures value { IfOk result (λ b. 0 < inode.now.size % 4096 → b.0 ≡ (placed_at (V.seen v.old).words dir.0).block (AtPage (inode.now.size / 4096))) }
-    ensures looks { LooksUp shape.now (V.seen v.old) (V.seen v.new) }
+    ensures read { ReadBy V.seen V.health V.sound V.passes (LooksUp shape.now) v.old v.new result }
     ensures can { CanReadDir shape.now (V.seen v.new) dir.0 }
-    ensures passes { V.passes v.old v.new }
-    ensures ends { Ends (V.health v.old) (V.health v.new) result }
-    ensures sound { V.sound v.new }
 {
     if inode.size % PAGE_BYTES == 0 {
         return Ok(Block(0));

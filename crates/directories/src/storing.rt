@@ -3,7 +3,7 @@
 ghost use Rattle.std.specs.Prelude.{◌≡◌, ◌+◌, ◌*◌, ◌/◌, ◌%◌, ◌<◌, ◌≤◌, ◌++◌, ℕ, map, length, slice_index, vec_capacity, IfOk};
 ghost use Rattle.std.specs.Vec.{vec_len};
 ghost use Rattle.std.specs.List.{Contains};
-ghost use Rattle.rio_base.specs.Blocks.{Ends};
+ghost use Rattle.rio_base.specs.Frames.{CanRead, ReadBy};
 ghost use Rattle.rio_model.specs.Placed.{AtPage, placed_at};
 ghost use Rattle.inode_table.specs.Inodes.{IsInode};
 ghost use Rattle.node_pages.specs.Changes.{word_edit};
@@ -49,18 +49,14 @@ pub fn words_for_slot<V: Blocks>(
     slot: u32,
     words: [u64; ENTRY_WORDS],
 ) -> Result<EntryWords, VolFail>
-    requires sound { V.sound v.old }
-    requires can { CanReadDir shape.now (V.seen v.old) dir.0 }
+    requires can { CanRead V.seen V.sound (λ x. CanReadDir shape.now x dir.0) v.old }
     requires inode { IsInode (V.seen v.old).words dir.0 inode.now }
     requires slot { 64 * slot < inode.now.size }
     ensures into { IfOk result (GoesInto (placed_at (V.seen v.old).words dir.0) slot) }
     ensures words { IfOk result (λ e. e.words ≡ words) }
     ensures within { IfOk result (λ e. e.first + 8 ≤ 512) }
-    ensures looks { LooksUp shape.now (V.seen v.old) (V.seen v.new) }
+    ensures read { ReadBy V.seen V.health V.sound V.passes (LooksUp shape.now) v.old v.new result }
     ensures can { CanReadDir shape.now (V.seen v.new) dir.0 }
-    ensures passes { V.passes v.old v.new }
-    ensures ends { Ends (V.health v.old) (V.health v.new) result }
-    ensures sound { V.sound v.new }
 {
     let block = page_block(v, shape, dir, inode, slot / PAGE_ENTRIES)?;
     Ok(EntryWords {
@@ -79,19 +75,15 @@ pub fn moved_words<V: Blocks>(
     from: u32,
     to: u32,
 ) -> Result<EntryWords, VolFail>
-    requires sound { V.sound v.old }
-    requires can { CanReadDir shape.now (V.seen v.old) dir.0 }
+    requires can { CanRead V.seen V.sound (λ x. CanReadDir shape.now x dir.0) v.old }
     requires inode { IsInode (V.seen v.old).words dir.0 inode.now }
     requires from { 64 * from < inode.now.size }
     requires to { 64 * to < inode.now.size }
     ensures into { IfOk result (GoesInto (placed_at (V.seen v.old).words dir.0) to) }
     ensures words { IfOk result (λ e. (t : ℕ) → t < 8 → slice_index e.words t ≡ (V.seen v.old).words ((placed_at (V.seen v.old).words dir.0).block (AtPage (from / 64))) (8 * (from % 64) + t)) }
     ensures within { IfOk result (λ e. e.first + 8 ≤ 512) }
-    ensures looks { LooksUp shape.now (V.seen v.old) (V.seen v.new) }
+    ensures read { ReadBy V.seen V.health V.sound V.passes (LooksUp shape.now) v.old v.new result }
     ensures can { CanReadDir shape.now (V.seen v.new) dir.0 }
-    ensures passes { V.passes v.old v.new }
-    ensures ends { Ends (V.health v.old) (V.health v.new) result }
-    ensures sound { V.sound v.new }
 {
     let words = read_entry(v, shape, dir, inode, from)?;
     words_for_slot(v, shape, dir, inode, to, words)

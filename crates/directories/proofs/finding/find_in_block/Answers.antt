@@ -1,8 +1,8 @@
-use Rattle.inode_table.proofs.Exits.{ends_err, ends_ok}
+use Rattle.rio_base.proofs.Frames.{read_then, read_ok, read_value, read_on, read_word}
 use Rattle.rio_base.proofs.Rules.{looks_trans}
-use Rattle.rio_base.proofs.BlockRules.{caches_trans, can_name_on, ends_later}
+use Rattle.rio_base.proofs.BlockRules.{caches_trans, can_name_on}
 use Rattle.directories.specs.Reading.{FindsIn}
-use Rattle.directories.proofs.Common.{BlockWords, IfOk, arith, err_from_is_err_and, subst, sym, ℕ, ◌<◌}
+use Rattle.directories.proofs.Common.{BlockWords, IfOk, arith, subst, sym, ℕ, ◌<◌}
 use Rattle.directories.proofs.Found.{finds_read}
 use Rattle.directories.proofs.finding.find_in_block.Goals as goal
 
@@ -21,25 +21,17 @@ find_in_copy-requires-clause-block g c = subst (λ (n : ℕ). c.args.b.0 < n) (s
 pub find_in_copy-requires-clause-can_name : goal.find_in_copy-requires-clause-can_name
 find_in_copy-requires-clause-can_name g c = can_name_on _ _ _ _ c.requires.can_name c.word.ensures.caches
 
-pub returns-clause-looks : goal.returns-clause-looks
-returns-clause-looks g c = looks_trans _ _ _ c.word.ensures.looks c.find_in_copy.ensures.looks
-
 pub returns-clause-caches : goal.returns-clause-caches
 returns-clause-caches g c = caches_trans _ _ _ _ _ c.word.ensures.caches c.find_in_copy.ensures.caches
 
-pub returns-clause-passes : goal.returns-clause-passes
-returns-clause-passes g c = g.met.V.Blocks.passes_trans _ _ _ c.word.ensures.passes c.find_in_copy.ensures.passes
-
-pub returns-clause-ends : goal.returns-clause-ends
-returns-clause-ends g c = ends_later _ _ _ c.find_in_copy.result c.word.ensures.ends.later c.in_ok-word.ensures.ends.cause c.find_in_copy.ensures.ends
-
-pub returns-in_err-word-clause-ends : goal.returns-in_err-word-clause-ends
-returns-in_err-word-clause-ends g c =
-    let p = err_from_is_err_and c.from_residual.result c.from_residual.ensures.1 in
-    ends_err _ _ c.word.result c.from_residual.result _ p.0 c.in_err-word.was p.1 p.2 c.word.ensures.ends
-
-pub returns-in-Some-clause-ends : goal.returns-in-Some-clause-ends
-returns-in-Some-clause-ends g c = ends_ok _ _ c.word.result _ _ c.in_ok-word.was c.word.ensures.ends
-
 pub returns-clause-value : goal.returns-clause-value
 returns-clause-value g c = subst (λ (f : BlockWords). IfOk c.find_in_copy.result (FindsIn (f c.args.b.0) c.args.count c.args.name.now)) c.word.ensures.looks.words c.find_in_copy.ensures.value
+
+pub returns-clause-read : goal.returns-clause-read
+returns-clause-read g c = read_then g.met.V.Blocks.passes_trans looks_trans (read_ok c.word.result _ c.in_ok-word.was (read_word c.word.result c.word.ensures.looks c.word.ensures.passes c.word.ensures.ends c.word.ensures.sound)) c.find_in_copy.ensures.read
+
+pub returns-in_err-word-clause-read : goal.returns-in_err-word-clause-read
+returns-in_err-word-clause-read g c = read_on c.word.result c.from_residual.result c.in_err-word.was c.from_residual.ensures.1 (read_word c.word.result c.word.ensures.looks c.word.ensures.passes c.word.ensures.ends c.word.ensures.sound)
+
+pub returns-in-Some-clause-read : goal.returns-in-Some-clause-read
+returns-in-Some-clause-read g c = read_value _ (read_ok c.word.result _ c.in_ok-word.was (read_word c.word.result c.word.ensures.looks c.word.ensures.passes c.word.ensures.ends c.word.ensures.sound))

@@ -1,4 +1,6 @@
-use Rattle.directories.proofs.Common.{◌≡◌, ◌≤◌, map, range_with_len, held_of, LooksUp, IsInode}
+use Rattle.rio_model.specs.VolumeReady.{LooksNamed}
+use Rattle.rio_base.specs.Frames.{HasRead}
+use Rattle.directories.proofs.Common.{◌≡◌, map, range_with_len, held_of, IsInode}
 use Rattle.std.specs.FinMap.{empty}
 use Rattle.directories.specs.Reading.{CanReadDir}
 use Rattle.directories.proofs.HeldRows.{put_rows, row_of}
@@ -8,14 +10,9 @@ use Rattle.directories.proofs.holding.hold_names.Given as goal
 abbrev pub invariant-loop-slot : goal.invariant-loop-slot
 invariant-loop-slot g l =
     let seen = g.V.Blocks.seen in
-    let health = g.V.Blocks.health in
     record {
       rows : l.names ≡ put_rows empty (map (row_of (held_of l.shape (seen l.fn.v).words l.dir.0)) (range_with_len 0 l.slot));
-      sound : g.V.Blocks.sound l.v;
-      looks : LooksUp l.shape (seen l.fn.v) (seen l.v);
+      read : HasRead g.V.Blocks.seen g.V.Blocks.health g.V.Blocks.sound g.V.Blocks.passes (LooksNamed l.shape) l.fn.v l.v ⊥ ⊥;
       can : CanReadDir l.shape (seen l.v) l.dir.0;
       inode : IsInode (seen l.v).words l.dir.0 l.inode;
-      passes : g.V.Blocks.passes l.fn.v l.v;
-      later : (health l.fn.v).faults ≤ (health l.v).faults;
-      running : (health l.v).stopped ≡ (health l.fn.v).stopped;
     }

@@ -1,3 +1,4 @@
+use Rattle.rio_base.proofs.Frames.{vol_ends}
 use Rattle.std.proofs.Common.{le_refl}
 use Rattle.directories.proofs.PushedEdits.{one_within}
 use Rattle.directories.proofs.PlannedSizes.{dir_fits, none_skipped, none_twice, plans_dir_inode}
@@ -24,13 +25,13 @@ returns-in_err-inode-clause-leaves g c =
     let can = can_read shape x d ready.order.has_shape ready.order.mapped ready.order.named c.requires.entries c.requires.dir in
     let x1 = g.V.Blocks.seen c.dir_inode.new.v in
     let k1 = g.V.Volume.kept c.dir_inode.new.v in
-    let p1 = g.met.V.Volume.passes_keeps _ _ c.dir_inode.ensures.passes in
-    let looks1 = c.dir_inode.ensures.looks in
+    let p1 = g.met.V.Volume.passes_keeps _ _ c.dir_inode.ensures.read.passed in
+    let looks1 = c.dir_inode.ensures.read.looks in
     leaves_looked shape _ _ _ _ x x1 k k1 ready looks1 p1
 
 pub returns-in_err-inode-clause-goes : goal.returns-in_err-inode-clause-goes
 returns-in_err-inode-clause-goes g c =
-    (g.met.V.Volume.passes_keeps _ _ c.dir_inode.ensures.passes).goes
+    (g.met.V.Volume.passes_keeps _ _ c.dir_inode.ensures.read.passed).goes
 
 pub returns-in_err-last-clause-leaves : goal.returns-in_err-last-clause-leaves
 returns-in_err-last-clause-leaves g c =
@@ -42,12 +43,12 @@ returns-in_err-last-clause-leaves g c =
     let can = can_read shape x d ready.order.has_shape ready.order.mapped ready.order.named c.requires.entries c.requires.dir in
     let x1 = g.V.Blocks.seen c.dir_inode.new.v in
     let k1 = g.V.Volume.kept c.dir_inode.new.v in
-    let p1 = g.met.V.Volume.passes_keeps _ _ c.dir_inode.ensures.passes in
-    let looks1 = c.dir_inode.ensures.looks in
+    let p1 = g.met.V.Volume.passes_keeps _ _ c.dir_inode.ensures.read.passed in
+    let looks1 = c.dir_inode.ensures.read.looks in
     let x2 = g.V.Blocks.seen c.last_block.new.v in
     let k2 = g.V.Volume.kept c.last_block.new.v in
-    let p2 = g.met.V.Volume.passes_keeps _ _ c.last_block.ensures.passes in
-    let looks2 = c.last_block.ensures.looks in
+    let p2 = g.met.V.Volume.passes_keeps _ _ c.last_block.ensures.read.passed in
+    let looks2 = c.last_block.ensures.read.looks in
     let left = looked_twice shape _ _ _ _ _ _ x x1 x2 k k1 k2 ready looks1 p1 looks2 p2 in
     let words : x2.words ≡ x.words = looks2.looks.words ∙ looks1.looks.words in
     left
@@ -56,11 +57,11 @@ pub returns-in_err-last-clause-goes : goal.returns-in_err-last-clause-goes
 returns-in_err-last-clause-goes g c =
     let x1 = g.V.Blocks.seen c.dir_inode.new.v in
     let k1 = g.V.Volume.kept c.dir_inode.new.v in
-    let p1 = g.met.V.Volume.passes_keeps _ _ c.dir_inode.ensures.passes in
-    let looks1 = c.dir_inode.ensures.looks in
+    let p1 = g.met.V.Volume.passes_keeps _ _ c.dir_inode.ensures.read.passed in
+    let looks1 = c.dir_inode.ensures.read.looks in
     let x2 = g.V.Blocks.seen c.last_block.new.v in
     let k2 = g.V.Volume.kept c.last_block.new.v in
-    let p2 = g.met.V.Volume.passes_keeps _ _ c.last_block.ensures.passes in
+    let p2 = g.met.V.Volume.passes_keeps _ _ c.last_block.ensures.read.passed in
     p1.goes then p2.goes
 
 pub plan_size-requires-clause-ready : goal.plan_size-requires-clause-ready
@@ -73,12 +74,12 @@ plan_size-requires-clause-ready g c =
     let can = can_read shape x d ready.order.has_shape ready.order.mapped ready.order.named c.requires.entries c.requires.dir in
     let x1 = g.V.Blocks.seen c.dir_inode.new.v in
     let k1 = g.V.Volume.kept c.dir_inode.new.v in
-    let p1 = g.met.V.Volume.passes_keeps _ _ c.dir_inode.ensures.passes in
-    let looks1 = c.dir_inode.ensures.looks in
+    let p1 = g.met.V.Volume.passes_keeps _ _ c.dir_inode.ensures.read.passed in
+    let looks1 = c.dir_inode.ensures.read.looks in
     let x2 = g.V.Blocks.seen c.last_block.new.v in
     let k2 = g.V.Volume.kept c.last_block.new.v in
-    let p2 = g.met.V.Volume.passes_keeps _ _ c.last_block.ensures.passes in
-    let looks2 = c.last_block.ensures.looks in
+    let p2 = g.met.V.Volume.passes_keeps _ _ c.last_block.ensures.read.passed in
+    let looks2 = c.last_block.ensures.read.looks in
     let left = looked_twice shape _ _ _ _ _ _ x x1 x2 k k1 k2 ready looks1 p1 looks2 p2 in
     let words : x2.words ≡ x.words = looks2.looks.words ∙ looks1.looks.words in
     ready_left shape x k x2 k2 ready left
@@ -93,12 +94,12 @@ returns-in_err-change-clause-no_space g c =
     let can = can_read shape x d ready.order.has_shape ready.order.mapped ready.order.named c.requires.entries c.requires.dir in
     let x1 = g.V.Blocks.seen c.dir_inode.new.v in
     let k1 = g.V.Volume.kept c.dir_inode.new.v in
-    let p1 = g.met.V.Volume.passes_keeps _ _ c.dir_inode.ensures.passes in
-    let looks1 = c.dir_inode.ensures.looks in
+    let p1 = g.met.V.Volume.passes_keeps _ _ c.dir_inode.ensures.read.passed in
+    let looks1 = c.dir_inode.ensures.read.looks in
     let x2 = g.V.Blocks.seen c.last_block.new.v in
     let k2 = g.V.Volume.kept c.last_block.new.v in
-    let p2 = g.met.V.Volume.passes_keeps _ _ c.last_block.ensures.passes in
-    let looks2 = c.last_block.ensures.looks in
+    let p2 = g.met.V.Volume.passes_keeps _ _ c.last_block.ensures.read.passed in
+    let looks2 = c.last_block.ensures.read.looks in
     let left = looked_twice shape _ _ _ _ _ _ x x1 x2 k k1 k2 ready looks1 p1 looks2 p2 in
     let words : x2.words ≡ x.words = looks2.looks.words ∙ looks1.looks.words in
     let inode = c.in_ok-inode.inode in
@@ -117,12 +118,12 @@ returns-in_err-change-clause-leaves g c =
     let can = can_read shape x d ready.order.has_shape ready.order.mapped ready.order.named c.requires.entries c.requires.dir in
     let x1 = g.V.Blocks.seen c.dir_inode.new.v in
     let k1 = g.V.Volume.kept c.dir_inode.new.v in
-    let p1 = g.met.V.Volume.passes_keeps _ _ c.dir_inode.ensures.passes in
-    let looks1 = c.dir_inode.ensures.looks in
+    let p1 = g.met.V.Volume.passes_keeps _ _ c.dir_inode.ensures.read.passed in
+    let looks1 = c.dir_inode.ensures.read.looks in
     let x2 = g.V.Blocks.seen c.last_block.new.v in
     let k2 = g.V.Volume.kept c.last_block.new.v in
-    let p2 = g.met.V.Volume.passes_keeps _ _ c.last_block.ensures.passes in
-    let looks2 = c.last_block.ensures.looks in
+    let p2 = g.met.V.Volume.passes_keeps _ _ c.last_block.ensures.read.passed in
+    let looks2 = c.last_block.ensures.read.looks in
     let left = looked_twice shape _ _ _ _ _ _ x x1 x2 k k1 k2 ready looks1 p1 looks2 p2 in
     let words : x2.words ≡ x.words = looks2.looks.words ∙ looks1.looks.words in
     let x3 = g.V.Blocks.seen c.plan_size.new.v in
@@ -134,17 +135,17 @@ pub returns-in_err-change-clause-goes : goal.returns-in_err-change-clause-goes
 returns-in_err-change-clause-goes g c =
     let x1 = g.V.Blocks.seen c.dir_inode.new.v in
     let k1 = g.V.Volume.kept c.dir_inode.new.v in
-    let p1 = g.met.V.Volume.passes_keeps _ _ c.dir_inode.ensures.passes in
-    let looks1 = c.dir_inode.ensures.looks in
+    let p1 = g.met.V.Volume.passes_keeps _ _ c.dir_inode.ensures.read.passed in
+    let looks1 = c.dir_inode.ensures.read.looks in
     let x2 = g.V.Blocks.seen c.last_block.new.v in
     let k2 = g.V.Volume.kept c.last_block.new.v in
-    let p2 = g.met.V.Volume.passes_keeps _ _ c.last_block.ensures.passes in
+    let p2 = g.met.V.Volume.passes_keeps _ _ c.last_block.ensures.read.passed in
     (p1.goes then p2.goes) then c.plan_size.ensures.goes
 
 pub returns-in_err-change-clause-ends : goal.returns-in_err-change-clause-ends
 returns-in_err-change-clause-ends g c =
     let p = err_from_is_err_and c.from_residual-in_err-change.result c.from_residual-in_err-change.ensures.1 in
-    ends_by_after _ _ _ _ _ c.dir_inode.ensures.ends.later c.in_ok-inode.ensures.ends.cause (ends_by_after _ _ _ _ _ c.last_block.ensures.ends.later c.in_ok-last.ensures.ends.cause (size_err _ _ _ c.from_residual-in_err-change.result _ p.0 c.in_err-change.was p.1 p.2 c.plan_size.ensures.ends))
+    ends_by_after _ _ _ _ _ (vol_ends _ _ _ c.dir_inode.ensures.read.ends).later (vol_ends _ _ _ c.in_ok-inode.ensures.read.ends).cause (ends_by_after _ _ _ _ _ (vol_ends _ _ _ c.last_block.ensures.read.ends).later (vol_ends _ _ _ c.in_ok-last.ensures.read.ends).cause (size_err _ _ _ c.from_residual-in_err-change.result _ p.0 c.in_err-change.was p.1 p.2 c.plan_size.ensures.ends))
 
 pub next_block-requires : goal.next_block-requires
 next_block-requires g c =
@@ -162,12 +163,12 @@ returns-in_err-with_entries-clause-leaves g c =
     let can = can_read shape x d ready.order.has_shape ready.order.mapped ready.order.named c.requires.entries c.requires.dir in
     let x1 = g.V.Blocks.seen c.dir_inode.new.v in
     let k1 = g.V.Volume.kept c.dir_inode.new.v in
-    let p1 = g.met.V.Volume.passes_keeps _ _ c.dir_inode.ensures.passes in
-    let looks1 = c.dir_inode.ensures.looks in
+    let p1 = g.met.V.Volume.passes_keeps _ _ c.dir_inode.ensures.read.passed in
+    let looks1 = c.dir_inode.ensures.read.looks in
     let x2 = g.V.Blocks.seen c.last_block.new.v in
     let k2 = g.V.Volume.kept c.last_block.new.v in
-    let p2 = g.met.V.Volume.passes_keeps _ _ c.last_block.ensures.passes in
-    let looks2 = c.last_block.ensures.looks in
+    let p2 = g.met.V.Volume.passes_keeps _ _ c.last_block.ensures.read.passed in
+    let looks2 = c.last_block.ensures.read.looks in
     let left = looked_twice shape _ _ _ _ _ _ x x1 x2 k k1 k2 ready looks1 p1 looks2 p2 in
     let words : x2.words ≡ x.words = looks2.looks.words ∙ looks1.looks.words in
     let x3 = g.V.Blocks.seen c.plan_size.new.v in
@@ -179,11 +180,11 @@ pub returns-in_err-with_entries-clause-goes : goal.returns-in_err-with_entries-c
 returns-in_err-with_entries-clause-goes g c =
     let x1 = g.V.Blocks.seen c.dir_inode.new.v in
     let k1 = g.V.Volume.kept c.dir_inode.new.v in
-    let p1 = g.met.V.Volume.passes_keeps _ _ c.dir_inode.ensures.passes in
-    let looks1 = c.dir_inode.ensures.looks in
+    let p1 = g.met.V.Volume.passes_keeps _ _ c.dir_inode.ensures.read.passed in
+    let looks1 = c.dir_inode.ensures.read.looks in
     let x2 = g.V.Blocks.seen c.last_block.new.v in
     let k2 = g.V.Volume.kept c.last_block.new.v in
-    let p2 = g.met.V.Volume.passes_keeps _ _ c.last_block.ensures.passes in
+    let p2 = g.met.V.Volume.passes_keeps _ _ c.last_block.ensures.read.passed in
     (p1.goes then p2.goes) then c.plan_size.ensures.goes
 
 pub returns-clause-ok : goal.returns-clause-ok
@@ -196,12 +197,12 @@ returns-clause-ok g c =
     let can = can_read shape x d ready.order.has_shape ready.order.mapped ready.order.named c.requires.entries c.requires.dir in
     let x1 = g.V.Blocks.seen c.dir_inode.new.v in
     let k1 = g.V.Volume.kept c.dir_inode.new.v in
-    let p1 = g.met.V.Volume.passes_keeps _ _ c.dir_inode.ensures.passes in
-    let looks1 = c.dir_inode.ensures.looks in
+    let p1 = g.met.V.Volume.passes_keeps _ _ c.dir_inode.ensures.read.passed in
+    let looks1 = c.dir_inode.ensures.read.looks in
     let x2 = g.V.Blocks.seen c.last_block.new.v in
     let k2 = g.V.Volume.kept c.last_block.new.v in
-    let p2 = g.met.V.Volume.passes_keeps _ _ c.last_block.ensures.passes in
-    let looks2 = c.last_block.ensures.looks in
+    let p2 = g.met.V.Volume.passes_keeps _ _ c.last_block.ensures.read.passed in
+    let looks2 = c.last_block.ensures.read.looks in
     let left = looked_twice shape _ _ _ _ _ _ x x1 x2 k k1 k2 ready looks1 p1 looks2 p2 in
     let words : x2.words ≡ x.words = looks2.looks.words ∙ looks1.looks.words in
     let inode = c.in_ok-inode.inode in
@@ -236,12 +237,12 @@ returns-clause-space g c =
     let can = can_read shape x d ready.order.has_shape ready.order.mapped ready.order.named c.requires.entries c.requires.dir in
     let x1 = g.V.Blocks.seen c.dir_inode.new.v in
     let k1 = g.V.Volume.kept c.dir_inode.new.v in
-    let p1 = g.met.V.Volume.passes_keeps _ _ c.dir_inode.ensures.passes in
-    let looks1 = c.dir_inode.ensures.looks in
+    let p1 = g.met.V.Volume.passes_keeps _ _ c.dir_inode.ensures.read.passed in
+    let looks1 = c.dir_inode.ensures.read.looks in
     let x2 = g.V.Blocks.seen c.last_block.new.v in
     let k2 = g.V.Volume.kept c.last_block.new.v in
-    let p2 = g.met.V.Volume.passes_keeps _ _ c.last_block.ensures.passes in
-    let looks2 = c.last_block.ensures.looks in
+    let p2 = g.met.V.Volume.passes_keeps _ _ c.last_block.ensures.read.passed in
+    let looks2 = c.last_block.ensures.read.looks in
     let left = looked_twice shape _ _ _ _ _ _ x x1 x2 k k1 k2 ready looks1 p1 looks2 p2 in
     let words : x2.words ≡ x.words = looks2.looks.words ∙ looks1.looks.words in
     let inode = c.in_ok-inode.inode in
@@ -259,12 +260,12 @@ returns-clause-leaves g c =
     let can = can_read shape x d ready.order.has_shape ready.order.mapped ready.order.named c.requires.entries c.requires.dir in
     let x1 = g.V.Blocks.seen c.dir_inode.new.v in
     let k1 = g.V.Volume.kept c.dir_inode.new.v in
-    let p1 = g.met.V.Volume.passes_keeps _ _ c.dir_inode.ensures.passes in
-    let looks1 = c.dir_inode.ensures.looks in
+    let p1 = g.met.V.Volume.passes_keeps _ _ c.dir_inode.ensures.read.passed in
+    let looks1 = c.dir_inode.ensures.read.looks in
     let x2 = g.V.Blocks.seen c.last_block.new.v in
     let k2 = g.V.Volume.kept c.last_block.new.v in
-    let p2 = g.met.V.Volume.passes_keeps _ _ c.last_block.ensures.passes in
-    let looks2 = c.last_block.ensures.looks in
+    let p2 = g.met.V.Volume.passes_keeps _ _ c.last_block.ensures.read.passed in
+    let looks2 = c.last_block.ensures.read.looks in
     let left = looked_twice shape _ _ _ _ _ _ x x1 x2 k k1 k2 ready looks1 p1 looks2 p2 in
     let words : x2.words ≡ x.words = looks2.looks.words ∙ looks1.looks.words in
     let x3 = g.V.Blocks.seen c.plan_size.new.v in
@@ -276,36 +277,33 @@ pub returns-clause-goes : goal.returns-clause-goes
 returns-clause-goes g c =
     let x1 = g.V.Blocks.seen c.dir_inode.new.v in
     let k1 = g.V.Volume.kept c.dir_inode.new.v in
-    let p1 = g.met.V.Volume.passes_keeps _ _ c.dir_inode.ensures.passes in
-    let looks1 = c.dir_inode.ensures.looks in
+    let p1 = g.met.V.Volume.passes_keeps _ _ c.dir_inode.ensures.read.passed in
+    let looks1 = c.dir_inode.ensures.read.looks in
     let x2 = g.V.Blocks.seen c.last_block.new.v in
     let k2 = g.V.Volume.kept c.last_block.new.v in
-    let p2 = g.met.V.Volume.passes_keeps _ _ c.last_block.ensures.passes in
+    let p2 = g.met.V.Volume.passes_keeps _ _ c.last_block.ensures.read.passed in
     (p1.goes then p2.goes) then c.plan_size.ensures.goes
 
-pub dir_inode-requires-clause-can : goal.dir_inode-requires-clause-can
-dir_inode-requires-clause-can g c = can_read _ _ _ c.requires.ready.order.has_shape c.requires.ready.order.mapped c.requires.ready.order.named c.requires.entries c.requires.dir
-
 pub last_block-requires-clause-inode : goal.last_block-requires-clause-inode
-last_block-requires-clause-inode g c = subst (λ (f : BlockWords). IsInode f c.args.dir.0 c.in_ok-inode.inode) (sym c.in_ok-inode.ensures.looks.looks.words) c.in_ok-inode.ensures.value
+last_block-requires-clause-inode g c = subst (λ (f : BlockWords). IsInode f c.args.dir.0 c.in_ok-inode.inode) (sym c.in_ok-inode.ensures.read.looks.looks.words) c.in_ok-inode.ensures.value
 
 pub returns-in_err-inode-clause-ends : goal.returns-in_err-inode-clause-ends
 returns-in_err-inode-clause-ends g c =
     let p = err_from_is_err_and c.from_residual.result c.from_residual.ensures.1 in
-    ends_vol_size _ _ c.dir_inode.result c.from_residual.result _ _ c.in_err-inode.was p.1 p.2 c.dir_inode.ensures.ends
+    ends_vol_size _ _ c.dir_inode.result c.from_residual.result _ _ c.in_err-inode.was p.1 p.2 (vol_ends _ _ _ c.dir_inode.ensures.read.ends)
 
 pub returns-in_err-last-clause-ends : goal.returns-in_err-last-clause-ends
 returns-in_err-last-clause-ends g c =
     let p = err_from_is_err_and c.from_residual-in_err-last.result c.from_residual-in_err-last.ensures.1 in
-    ends_by_after _ _ _ _ _ c.dir_inode.ensures.ends.later c.in_ok-inode.ensures.ends.cause (ends_vol_size _ _ c.last_block.result c.from_residual-in_err-last.result _ _ c.in_err-last.was p.1 p.2 c.last_block.ensures.ends)
+    ends_by_after _ _ _ _ _ (vol_ends _ _ _ c.dir_inode.ensures.read.ends).later (vol_ends _ _ _ c.in_ok-inode.ensures.read.ends).cause (ends_vol_size _ _ c.last_block.result c.from_residual-in_err-last.result _ _ c.in_err-last.was p.1 p.2 (vol_ends _ _ _ c.last_block.ensures.read.ends))
 
 pub returns-in_err-with_entries-clause-ends : goal.returns-in_err-with_entries-clause-ends
 returns-in_err-with_entries-clause-ends g c =
     let p = err_from_is_err_and c.from_residual-in_err-with_entries.result c.from_residual-in_err-with_entries.ensures.1 in
-    ends_by_after _ _ _ _ _ c.dir_inode.ensures.ends.later c.in_ok-inode.ensures.ends.cause (ends_by_after _ _ _ _ _ c.last_block.ensures.ends.later c.in_ok-last.ensures.ends.cause (size_then _ _ _ c.plan_size.result _ _ c.in_ok-change.was c.plan_size.ensures.ends (ends_well_memory _ _ c.from_residual-in_err-with_entries.result _ p.1 p.2 (le_refl _) refl)))
+    ends_by_after _ _ _ _ _ (vol_ends _ _ _ c.dir_inode.ensures.read.ends).later (vol_ends _ _ _ c.in_ok-inode.ensures.read.ends).cause (ends_by_after _ _ _ _ _ (vol_ends _ _ _ c.last_block.ensures.read.ends).later (vol_ends _ _ _ c.in_ok-last.ensures.read.ends).cause (size_then _ _ _ c.plan_size.result _ _ c.in_ok-change.was c.plan_size.ensures.ends (ends_well_memory _ _ c.from_residual-in_err-with_entries.result _ p.1 p.2 (le_refl _) refl)))
 
 pub returns-clause-ends : goal.returns-clause-ends
-returns-clause-ends g c = ends_by_after _ _ _ _ _ c.dir_inode.ensures.ends.later c.in_ok-inode.ensures.ends.cause (ends_by_after _ _ _ _ _ c.last_block.ensures.ends.later c.in_ok-last.ensures.ends.cause (size_then _ _ _ c.plan_size.result _ _ c.in_ok-change.was c.plan_size.ensures.ends (ends_well_ok _ _ _ (le_refl _) refl)))
+returns-clause-ends g c = ends_by_after _ _ _ _ _ (vol_ends _ _ _ c.dir_inode.ensures.read.ends).later (vol_ends _ _ _ c.in_ok-inode.ensures.read.ends).cause (ends_by_after _ _ _ _ _ (vol_ends _ _ _ c.last_block.ensures.read.ends).later (vol_ends _ _ _ c.in_ok-last.ensures.read.ends).cause (size_then _ _ _ c.plan_size.result _ _ c.in_ok-change.was c.plan_size.ensures.ends (ends_well_ok _ _ _ (le_refl _) refl)))
 
 pub returns-in_err-inode-clause-fits : goal.returns-in_err-inode-clause-fits
 returns-in_err-inode-clause-fits g c =
@@ -349,7 +347,7 @@ plan_size-requires-clause-fits g c =
     let d = c.args.dir.0 in
     let y = g.V.Blocks.seen c.last_block.new.v in
     let can = c.in_ok-last.ensures.can in
-    let is = subst (λ (f : BlockWords). IsInode f d c.in_ok-inode.inode) (sym (c.in_ok-last.ensures.looks.looks.words ∙ c.in_ok-inode.ensures.looks.looks.words)) c.in_ok-inode.ensures.value in
+    let is = subst (λ (f : BlockWords). IsInode f d c.in_ok-inode.inode) (sym (c.in_ok-last.ensures.read.looks.looks.words ∙ c.in_ok-inode.ensures.read.looks.looks.words)) c.in_ok-inode.ensures.value in
     let size = is.size in
     let whole = dir_size shape y d can in
     λ most. dir_fits shape y d (c.in_ok-inode.inode.size + 64) c.in_ok-inode.inode can is (omega (arith, whole, size)) most
@@ -357,7 +355,7 @@ plan_size-requires-clause-fits g c =
 pub plan_size-requires-clause-inode : goal.plan_size-requires-clause-inode
 plan_size-requires-clause-inode g c =
     let d = c.args.dir.0 in
-    let is = subst (λ (f : BlockWords). IsInode f d c.in_ok-inode.inode) (sym (c.in_ok-last.ensures.looks.looks.words ∙ c.in_ok-inode.ensures.looks.looks.words)) c.in_ok-inode.ensures.value in
+    let is = subst (λ (f : BlockWords). IsInode f d c.in_ok-inode.inode) (sym (c.in_ok-last.ensures.read.looks.looks.words ∙ c.in_ok-inode.ensures.read.looks.looks.words)) c.in_ok-inode.ensures.value in
     plans_dir_inode c.args.shape.now (g.V.Blocks.seen c.last_block.new.v) d c.in_ok-inode.inode c.in_ok-last.ensures.can is
 
 pub returns-in_err-inode-clause-ok : goal.returns-in_err-inode-clause-ok
@@ -418,3 +416,9 @@ overflow_cast-inode g c =
     let x = g.V.Blocks.seen c.args.v.now in
     let can = can_read c.args.shape.now x c.args.dir.0 ready.order.has_shape ready.order.mapped ready.order.named c.requires.entries c.requires.dir in
     omega (arith, room_left c.args.shape.now x c.args.dir.0 c.in_ok-inode.inode can c.in_ok-inode.ensures.value c.requires.room)
+
+pub dir_inode-requires : goal.dir_inode-requires
+dir_inode-requires g c = record { can = record { keeps = c.requires.sound; meets = can_read _ _ _ c.requires.ready.order.has_shape c.requires.ready.order.mapped c.requires.ready.order.named c.requires.entries c.requires.dir } }
+
+pub last_block-requires-clause-can : goal.last_block-requires-clause-can
+last_block-requires-clause-can g c = record { keeps = c.dir_inode.ensures.read.keeps; meets = c.dir_inode.ensures.can }

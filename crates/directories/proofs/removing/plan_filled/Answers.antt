@@ -1,3 +1,4 @@
+use Rattle.rio_base.proofs.Frames.{vol_ends}
 use Rattle.node_pages.proofs.Ends.{ends_vol_read}
 use Rattle.directories.proofs.Common.{◌≡◌, ◌+◌, ◌-◌, ◌*◌, ◌/◌, arith, err_from_is_err_and, ◌then◌, ends_by_after, if_ok_map, look_trans, leaves_looked, BlockWords, IsInode, subst, sym, ◌∙◌}
 use Rattle.std.specs.Prelude.{[], ◌∷◌, slice_index}
@@ -10,19 +11,19 @@ use Rattle.directories.proofs.PlannedRows.{PlansEntries, gap_room, last_in, plan
 use Rattle.directories.proofs.removing.plan_filled.Goals as goal
 
 pub returns-in_err-stored-clause-leaves : goal.returns-in_err-stored-clause-leaves
-returns-in_err-stored-clause-leaves g c = leaves_looked c.args.shape.now _ _ _ _ _ _ _ _ c.requires.ready (c.words_for_slot.ensures.looks) (g.met.V.Volume.passes_keeps _ _ (c.words_for_slot.ensures.passes))
+returns-in_err-stored-clause-leaves g c = leaves_looked c.args.shape.now _ _ _ _ _ _ _ _ c.requires.ready (c.words_for_slot.ensures.read.looks) (g.met.V.Volume.passes_keeps _ _ (c.words_for_slot.ensures.read.passed))
 
 pub returns-in_err-stored-clause-goes : goal.returns-in_err-stored-clause-goes
-returns-in_err-stored-clause-goes g c = (g.met.V.Volume.passes_keeps _ _ (c.words_for_slot.ensures.passes)).goes
+returns-in_err-stored-clause-goes g c = (g.met.V.Volume.passes_keeps _ _ (c.words_for_slot.ensures.read.passed)).goes
 
 pub returns-in_err-moved-clause-leaves : goal.returns-in_err-moved-clause-leaves
-returns-in_err-moved-clause-leaves g c = leaves_looked c.args.shape.now _ _ _ _ _ _ _ _ c.requires.ready (look_trans c.args.shape.now _ _ _ c.words_for_slot.ensures.looks c.moved_words.ensures.looks) (g.met.V.Volume.passes_keeps _ _ (g.met.V.Blocks.passes_trans _ _ _ c.words_for_slot.ensures.passes c.moved_words.ensures.passes))
+returns-in_err-moved-clause-leaves g c = leaves_looked c.args.shape.now _ _ _ _ _ _ _ _ c.requires.ready (look_trans c.args.shape.now _ _ _ c.words_for_slot.ensures.read.looks c.moved_words.ensures.read.looks) (g.met.V.Volume.passes_keeps _ _ (g.met.V.Blocks.passes_trans _ _ _ c.words_for_slot.ensures.read.passed c.moved_words.ensures.read.passed))
 
 pub returns-in_err-moved-clause-goes : goal.returns-in_err-moved-clause-goes
-returns-in_err-moved-clause-goes g c = (g.met.V.Volume.passes_keeps _ _ (g.met.V.Blocks.passes_trans _ _ _ c.words_for_slot.ensures.passes c.moved_words.ensures.passes)).goes
+returns-in_err-moved-clause-goes g c = (g.met.V.Volume.passes_keeps _ _ (g.met.V.Blocks.passes_trans _ _ _ c.words_for_slot.ensures.read.passed c.moved_words.ensures.read.passed)).goes
 
 pub plan_entries-requires-clause-ready : goal.plan_entries-requires-clause-ready
-plan_entries-requires-clause-ready g c = ready_on c.args.shape.now _ _ _ _ _ _ _ _ c.requires.ready (look_trans c.args.shape.now _ _ _ c.words_for_slot.ensures.looks c.moved_words.ensures.looks) (g.met.V.Volume.passes_keeps _ _ (g.met.V.Blocks.passes_trans _ _ _ c.words_for_slot.ensures.passes c.moved_words.ensures.passes))
+plan_entries-requires-clause-ready g c = ready_on c.args.shape.now _ _ _ _ _ _ _ _ c.requires.ready (look_trans c.args.shape.now _ _ _ c.words_for_slot.ensures.read.looks c.moved_words.ensures.read.looks) (g.met.V.Volume.passes_keeps _ _ (g.met.V.Blocks.passes_trans _ _ _ c.words_for_slot.ensures.read.passed c.moved_words.ensures.read.passed))
 
 pub returns-clause-ok : goal.returns-clause-ok
 returns-clause-ok g c =
@@ -43,36 +44,36 @@ returns-clause-ok g c =
     let is = c.requires.inode.size in
     let end = c.last_slot.ensures in
     let room = c.requires.slot in
-    let looks = c.words_for_slot.ensures.looks in
+    let looks = c.words_for_slot.ensures.read.looks in
     let at : c.last_slot.result ≡ last = omega (arith, end) in
     if_ok_map (PlansEntries shape w.words y j d (size - 64) (e ∷ m ∷ [])) (PlansDir shape x.words y j d (λ h k. k ≡ sized_to (size - 64) (with_entry (with_entry h slot (slice_index own)) gap (λ t. h.word (8 * last + t))))) c.plan_entries.result
     (λ change plans. two_planned shape x y j d slot gap last (size - 64) e m own change c.requires.can (omega (arith, is, room)) c.requires.slot c.requires.gap c.in_ok-stored.ensures.into
     (into_back shape x z d gap m looks c.in_ok-moved.ensures.into) c.in_ok-stored.ensures.words
     (moved_back shape x z d c.last_slot.result last m.words at looks c.in_ok-moved.ensures.words)
-    (plans_back shape x w y j d (size - 64) (e ∷ m ∷ []) change (look_trans shape _ _ _ looks c.moved_words.ensures.looks) plans))
+    (plans_back shape x w y j d (size - 64) (e ∷ m ∷ []) change (look_trans shape _ _ _ looks c.moved_words.ensures.read.looks) plans))
     c.plan_entries.ensures.ok
 
 pub returns-clause-leaves : goal.returns-clause-leaves
-returns-clause-leaves g c = leaves_on c.args.shape.now _ _ _ _ _ _ _ _ _ _ c.requires.ready (look_trans c.args.shape.now _ _ _ c.words_for_slot.ensures.looks c.moved_words.ensures.looks) (g.met.V.Volume.passes_keeps _ _ (g.met.V.Blocks.passes_trans _ _ _ c.words_for_slot.ensures.passes c.moved_words.ensures.passes)) c.plan_entries.ensures.leaves
+returns-clause-leaves g c = leaves_on c.args.shape.now _ _ _ _ _ _ _ _ _ _ c.requires.ready (look_trans c.args.shape.now _ _ _ c.words_for_slot.ensures.read.looks c.moved_words.ensures.read.looks) (g.met.V.Volume.passes_keeps _ _ (g.met.V.Blocks.passes_trans _ _ _ c.words_for_slot.ensures.read.passed c.moved_words.ensures.read.passed)) c.plan_entries.ensures.leaves
 
 pub returns-clause-goes : goal.returns-clause-goes
-returns-clause-goes g c = (g.met.V.Volume.passes_keeps _ _ (g.met.V.Blocks.passes_trans _ _ _ c.words_for_slot.ensures.passes c.moved_words.ensures.passes)).goes then c.plan_entries.ensures.goes
+returns-clause-goes g c = (g.met.V.Volume.passes_keeps _ _ (g.met.V.Blocks.passes_trans _ _ _ c.words_for_slot.ensures.read.passed c.moved_words.ensures.read.passed)).goes then c.plan_entries.ensures.goes
 
 pub returns-clause-ends : goal.returns-clause-ends
-returns-clause-ends g c = ends_by_after _ _ _ _ _ c.words_for_slot.ensures.ends.later c.in_ok-stored.ensures.ends.cause (ends_by_after _ _ _ _ _ c.moved_words.ensures.ends.later c.in_ok-moved.ensures.ends.cause c.plan_entries.ensures.ends)
+returns-clause-ends g c = ends_by_after _ _ _ _ _ (vol_ends _ _ _ c.words_for_slot.ensures.read.ends).later (vol_ends _ _ _ c.in_ok-stored.ensures.read.ends).cause (ends_by_after _ _ _ _ _ (vol_ends _ _ _ c.moved_words.ensures.read.ends).later (vol_ends _ _ _ c.in_ok-moved.ensures.read.ends).cause c.plan_entries.ensures.ends)
 
 pub returns-in_err-stored-clause-ends : goal.returns-in_err-stored-clause-ends
 returns-in_err-stored-clause-ends g c =
     let p = err_from_is_err_and c.from_residual.result c.from_residual.ensures.1 in
-    ends_vol_read _ _ c.words_for_slot.result c.from_residual.result _ _ c.in_err-stored.was p.1 p.2 c.words_for_slot.ensures.ends
+    ends_vol_read _ _ c.words_for_slot.result c.from_residual.result _ _ c.in_err-stored.was p.1 p.2 (vol_ends _ _ _ c.words_for_slot.ensures.read.ends)
 
 pub returns-in_err-moved-clause-ends : goal.returns-in_err-moved-clause-ends
 returns-in_err-moved-clause-ends g c =
     let p = err_from_is_err_and c.from_residual-in_err-moved.result c.from_residual-in_err-moved.ensures.1 in
-    ends_by_after _ _ _ _ _ c.words_for_slot.ensures.ends.later c.in_ok-stored.ensures.ends.cause (ends_vol_read _ _ c.moved_words.result c.from_residual-in_err-moved.result _ _ c.in_err-moved.was p.1 p.2 c.moved_words.ensures.ends)
+    ends_by_after _ _ _ _ _ (vol_ends _ _ _ c.words_for_slot.ensures.read.ends).later (vol_ends _ _ _ c.in_ok-stored.ensures.read.ends).cause (ends_vol_read _ _ c.moved_words.result c.from_residual-in_err-moved.result _ _ c.in_err-moved.was p.1 p.2 (vol_ends _ _ _ c.moved_words.ensures.read.ends))
 
 pub moved_words-requires-clause-inode : goal.moved_words-requires-clause-inode
-moved_words-requires-clause-inode g c = subst (λ (f : BlockWords). IsInode f c.args.dir.0 c.args.inode.now) (sym c.words_for_slot.ensures.looks.looks.words) c.requires.inode
+moved_words-requires-clause-inode g c = subst (λ (f : BlockWords). IsInode f c.args.dir.0 c.args.inode.now) (sym c.words_for_slot.ensures.read.looks.looks.words) c.requires.inode
 
 pub moved_words-requires-clause-to : goal.moved_words-requires-clause-to
 moved_words-requires-clause-to g c =
@@ -85,7 +86,7 @@ words_for_slot-requires-clause-slot g c =
     omega (arith, slot)
 
 pub plan_entries-requires-clause-inode : goal.plan_entries-requires-clause-inode
-plan_entries-requires-clause-inode g c = subst (λ (f : BlockWords). IsInode f c.args.dir.0 c.args.inode.now) (sym (c.moved_words.ensures.looks.looks.words ∙ c.words_for_slot.ensures.looks.looks.words)) c.requires.inode
+plan_entries-requires-clause-inode g c = subst (λ (f : BlockWords). IsInode f c.args.dir.0 c.args.inode.now) (sym (c.moved_words.ensures.read.looks.looks.words ∙ c.words_for_slot.ensures.read.looks.looks.words)) c.requires.inode
 
 pub returns-in_err-stored-clause-ok : goal.returns-in_err-stored-clause-ok
 returns-in_err-stored-clause-ok g c = if_err c.from_residual.result _ c.from_residual.ensures.0
@@ -113,3 +114,9 @@ plan_entries-requires-clause-within g c = two_within _ _ c.in_ok-stored.ensures.
 
 pub plan_entries-requires-clause-few : goal.plan_entries-requires-clause-few
 plan_entries-requires-clause-few g c = omega arith
+
+pub words_for_slot-requires-clause-can : goal.words_for_slot-requires-clause-can
+words_for_slot-requires-clause-can g c = record { keeps = c.requires.sound; meets = c.requires.can }
+
+pub moved_words-requires-clause-can : goal.moved_words-requires-clause-can
+moved_words-requires-clause-can g c = record { keeps = c.words_for_slot.ensures.read.keeps; meets = c.words_for_slot.ensures.can }

@@ -1,3 +1,4 @@
+use Rattle.rio_base.proofs.Frames.{vol_ends}
 use Rattle.node_pages.proofs.Ends.{ends_vol_read}
 use Rattle.directories.proofs.Common.{◌≡◌, ◌-◌, ap, arith, refl, err_from_is_err_and, ◌then◌, ends_by_after, if_ok_map, look_trans, leaves_looked, BlockWords, IsInode, subst, sym, ◌∙◌}
 use Rattle.std.specs.Prelude.{[], slice_index}
@@ -10,19 +11,19 @@ use Rattle.directories.proofs.PlannedRows.{PlansEntries, dir_back, last_planned,
 use Rattle.directories.proofs.removing.plan_remove.Goals as goal
 
 pub returns-in_err-inode-clause-leaves : goal.returns-in_err-inode-clause-leaves
-returns-in_err-inode-clause-leaves g c = leaves_looked c.args.shape.now _ _ _ _ _ _ _ _ c.requires.ready (c.dir_inode.ensures.looks) (g.met.V.Volume.passes_keeps _ _ (c.dir_inode.ensures.passes))
+returns-in_err-inode-clause-leaves g c = leaves_looked c.args.shape.now _ _ _ _ _ _ _ _ c.requires.ready (c.dir_inode.ensures.read.looks) (g.met.V.Volume.passes_keeps _ _ (c.dir_inode.ensures.read.passed))
 
 pub returns-in_err-inode-clause-goes : goal.returns-in_err-inode-clause-goes
-returns-in_err-inode-clause-goes g c = (g.met.V.Volume.passes_keeps _ _ (c.dir_inode.ensures.passes)).goes
+returns-in_err-inode-clause-goes g c = (g.met.V.Volume.passes_keeps _ _ (c.dir_inode.ensures.read.passed)).goes
 
 pub returns-in_err-words-clause-leaves : goal.returns-in_err-words-clause-leaves
-returns-in_err-words-clause-leaves g c = leaves_looked c.args.shape.now _ _ _ _ _ _ _ _ c.requires.ready (look_trans c.args.shape.now _ _ _ c.dir_inode.ensures.looks c.read_entry.ensures.looks) (g.met.V.Volume.passes_keeps _ _ (g.met.V.Blocks.passes_trans _ _ _ c.dir_inode.ensures.passes c.read_entry.ensures.passes))
+returns-in_err-words-clause-leaves g c = leaves_looked c.args.shape.now _ _ _ _ _ _ _ _ c.requires.ready (look_trans c.args.shape.now _ _ _ c.dir_inode.ensures.read.looks c.read_entry.ensures.read.looks) (g.met.V.Volume.passes_keeps _ _ (g.met.V.Blocks.passes_trans _ _ _ c.dir_inode.ensures.read.passed c.read_entry.ensures.read.passed))
 
 pub returns-in_err-words-clause-goes : goal.returns-in_err-words-clause-goes
-returns-in_err-words-clause-goes g c = (g.met.V.Volume.passes_keeps _ _ (g.met.V.Blocks.passes_trans _ _ _ c.dir_inode.ensures.passes c.read_entry.ensures.passes)).goes
+returns-in_err-words-clause-goes g c = (g.met.V.Volume.passes_keeps _ _ (g.met.V.Blocks.passes_trans _ _ _ c.dir_inode.ensures.read.passed c.read_entry.ensures.read.passed)).goes
 
 pub plan_entries-requires-clause-ready : goal.plan_entries-requires-clause-ready
-plan_entries-requires-clause-ready g c = ready_on c.args.shape.now _ _ _ _ _ _ _ _ c.requires.ready (c.dir_inode.ensures.looks) (g.met.V.Volume.passes_keeps _ _ (c.dir_inode.ensures.passes))
+plan_entries-requires-clause-ready g c = ready_on c.args.shape.now _ _ _ _ _ _ _ _ c.requires.ready (c.dir_inode.ensures.read.looks) (g.met.V.Volume.passes_keeps _ _ (c.dir_inode.ensures.read.passed))
 
 pub returns-then-slot-last-clause-ok : goal.returns-then-slot-last-clause-ok
 returns-then-slot-last-clause-ok g c =
@@ -41,20 +42,20 @@ returns-then-slot-last-clause-ok g c =
     let end = c.last_slot-last.ensures in
     let within = slot_in shape x d slot size can is c.requires.slot in
     if_ok_map (PlansEntries shape (g.V.Blocks.seen c.dir_inode.new.v).words y j d len []) (PlansDir shape x.words y j d (RemovesRow slot)) c.plan_entries.result
-    (λ change plans. last_planned shape x y j d slot len change can (ap (λ s. s - 64) is) (let at = c.if-slot-last.true in omega (arith, end, is, at)) (plans_back shape x _ y j d len [] change c.dir_inode.ensures.looks plans))
+    (λ change plans. last_planned shape x y j d slot len change can (ap (λ s. s - 64) is) (let at = c.if-slot-last.true in omega (arith, end, is, at)) (plans_back shape x _ y j d len [] change c.dir_inode.ensures.read.looks plans))
     c.plan_entries.ensures.ok
 
 pub returns-then-slot-last-clause-leaves : goal.returns-then-slot-last-clause-leaves
-returns-then-slot-last-clause-leaves g c = leaves_on c.args.shape.now _ _ _ _ _ _ _ _ _ _ c.requires.ready (c.dir_inode.ensures.looks) (g.met.V.Volume.passes_keeps _ _ (c.dir_inode.ensures.passes)) c.plan_entries.ensures.leaves
+returns-then-slot-last-clause-leaves g c = leaves_on c.args.shape.now _ _ _ _ _ _ _ _ _ _ c.requires.ready (c.dir_inode.ensures.read.looks) (g.met.V.Volume.passes_keeps _ _ (c.dir_inode.ensures.read.passed)) c.plan_entries.ensures.leaves
 
 pub returns-then-slot-last-clause-goes : goal.returns-then-slot-last-clause-goes
-returns-then-slot-last-clause-goes g c = (g.met.V.Volume.passes_keeps _ _ (c.dir_inode.ensures.passes)).goes then c.plan_entries.ensures.goes
+returns-then-slot-last-clause-goes g c = (g.met.V.Volume.passes_keeps _ _ (c.dir_inode.ensures.read.passed)).goes then c.plan_entries.ensures.goes
 
 pub returns-then-slot-last-clause-ends : goal.returns-then-slot-last-clause-ends
-returns-then-slot-last-clause-ends g c = ends_by_after _ _ _ _ _ c.dir_inode.ensures.ends.later c.in_ok-inode.ensures.ends.cause c.plan_entries.ensures.ends
+returns-then-slot-last-clause-ends g c = ends_by_after _ _ _ _ _ (vol_ends _ _ _ c.dir_inode.ensures.read.ends).later (vol_ends _ _ _ c.in_ok-inode.ensures.read.ends).cause c.plan_entries.ensures.ends
 
 pub plan_entry-requires-clause-ready : goal.plan_entry-requires-clause-ready
-plan_entry-requires-clause-ready g c = ready_on c.args.shape.now _ _ _ _ _ _ _ _ c.requires.ready (look_trans c.args.shape.now _ _ _ c.dir_inode.ensures.looks c.read_entry.ensures.looks) (g.met.V.Volume.passes_keeps _ _ (g.met.V.Blocks.passes_trans _ _ _ c.dir_inode.ensures.passes c.read_entry.ensures.passes))
+plan_entry-requires-clause-ready g c = ready_on c.args.shape.now _ _ _ _ _ _ _ _ c.requires.ready (look_trans c.args.shape.now _ _ _ c.dir_inode.ensures.read.looks c.read_entry.ensures.read.looks) (g.met.V.Volume.passes_keeps _ _ (g.met.V.Blocks.passes_trans _ _ _ c.dir_inode.ensures.read.passed c.read_entry.ensures.read.passed))
 
 pub returns-clause-ok : goal.returns-clause-ok
 returns-clause-ok g c =
@@ -75,40 +76,37 @@ returns-clause-ok g c =
     let own = c.in_ok-words.words in
     if_ok_map (PlansDir shape (g.V.Blocks.seen c.read_entry.new.v).words y j d (λ h k. k ≡ sized_to len (with_entry h slot (slice_index own)))) (PlansDir shape x.words y j d (RemovesRow slot)) c.plan_entry.result
     (λ change plans. moved_planned shape x y j d slot last len own change can (ap (λ s. s - 64) is) (omega (arith, end, is)) (omega (arith, within, is))
-    (moved_back shape x (g.V.Blocks.seen c.dir_inode.new.v) d last last own refl c.dir_inode.ensures.looks c.in_ok-words.ensures.words)
-    (dir_back shape x _ y j d _ change (look_trans c.args.shape.now _ _ _ c.dir_inode.ensures.looks c.read_entry.ensures.looks) plans))
+    (moved_back shape x (g.V.Blocks.seen c.dir_inode.new.v) d last last own refl c.dir_inode.ensures.read.looks c.in_ok-words.ensures.words)
+    (dir_back shape x _ y j d _ change (look_trans c.args.shape.now _ _ _ c.dir_inode.ensures.read.looks c.read_entry.ensures.read.looks) plans))
     c.plan_entry.ensures.ok
 
 pub returns-clause-leaves : goal.returns-clause-leaves
-returns-clause-leaves g c = leaves_on c.args.shape.now _ _ _ _ _ _ _ _ _ _ c.requires.ready (look_trans c.args.shape.now _ _ _ c.dir_inode.ensures.looks c.read_entry.ensures.looks) (g.met.V.Volume.passes_keeps _ _ (g.met.V.Blocks.passes_trans _ _ _ c.dir_inode.ensures.passes c.read_entry.ensures.passes)) c.plan_entry.ensures.leaves
+returns-clause-leaves g c = leaves_on c.args.shape.now _ _ _ _ _ _ _ _ _ _ c.requires.ready (look_trans c.args.shape.now _ _ _ c.dir_inode.ensures.read.looks c.read_entry.ensures.read.looks) (g.met.V.Volume.passes_keeps _ _ (g.met.V.Blocks.passes_trans _ _ _ c.dir_inode.ensures.read.passed c.read_entry.ensures.read.passed)) c.plan_entry.ensures.leaves
 
 pub returns-clause-goes : goal.returns-clause-goes
-returns-clause-goes g c = (g.met.V.Volume.passes_keeps _ _ (g.met.V.Blocks.passes_trans _ _ _ c.dir_inode.ensures.passes c.read_entry.ensures.passes)).goes then c.plan_entry.ensures.goes
+returns-clause-goes g c = (g.met.V.Volume.passes_keeps _ _ (g.met.V.Blocks.passes_trans _ _ _ c.dir_inode.ensures.read.passed c.read_entry.ensures.read.passed)).goes then c.plan_entry.ensures.goes
 
 pub returns-clause-ends : goal.returns-clause-ends
-returns-clause-ends g c = ends_by_after _ _ _ _ _ c.dir_inode.ensures.ends.later c.in_ok-inode.ensures.ends.cause (ends_by_after _ _ _ _ _ c.read_entry.ensures.ends.later c.in_ok-words.ensures.ends.cause c.plan_entry.ensures.ends)
+returns-clause-ends g c = ends_by_after _ _ _ _ _ (vol_ends _ _ _ c.dir_inode.ensures.read.ends).later (vol_ends _ _ _ c.in_ok-inode.ensures.read.ends).cause (ends_by_after _ _ _ _ _ (vol_ends _ _ _ c.read_entry.ensures.read.ends).later (vol_ends _ _ _ c.in_ok-words.ensures.read.ends).cause c.plan_entry.ensures.ends)
 
 pub returns-in_err-inode-clause-ends : goal.returns-in_err-inode-clause-ends
 returns-in_err-inode-clause-ends g c =
     let p = err_from_is_err_and c.from_residual.result c.from_residual.ensures.1 in
-    ends_vol_read _ _ c.dir_inode.result c.from_residual.result _ _ c.in_err-inode.was p.1 p.2 c.dir_inode.ensures.ends
+    ends_vol_read _ _ c.dir_inode.result c.from_residual.result _ _ c.in_err-inode.was p.1 p.2 (vol_ends _ _ _ c.dir_inode.ensures.read.ends)
 
 pub returns-in_err-words-clause-ends : goal.returns-in_err-words-clause-ends
 returns-in_err-words-clause-ends g c =
     let p = err_from_is_err_and c.from_residual-in_err-words.result c.from_residual-in_err-words.ensures.1 in
-    ends_by_after _ _ _ _ _ c.dir_inode.ensures.ends.later c.in_ok-inode.ensures.ends.cause (ends_vol_read _ _ c.read_entry.result c.from_residual-in_err-words.result _ _ c.in_err-words.was p.1 p.2 c.read_entry.ensures.ends)
-
-pub dir_inode-requires-clause-can : goal.dir_inode-requires-clause-can
-dir_inode-requires-clause-can g c = can_read _ _ _ c.requires.ready.order.has_shape c.requires.ready.order.mapped c.requires.ready.order.named c.requires.entries c.requires.slot.dir
+    ends_by_after _ _ _ _ _ (vol_ends _ _ _ c.dir_inode.ensures.read.ends).later (vol_ends _ _ _ c.in_ok-inode.ensures.read.ends).cause (ends_vol_read _ _ c.read_entry.result c.from_residual-in_err-words.result _ _ c.in_err-words.was p.1 p.2 (vol_ends _ _ _ c.read_entry.ensures.read.ends))
 
 pub plan_entries-requires-clause-inode : goal.plan_entries-requires-clause-inode
-plan_entries-requires-clause-inode g c = subst (λ (f : BlockWords). IsInode f c.args.dir.0 c.in_ok-inode.inode) (sym c.in_ok-inode.ensures.looks.looks.words) c.in_ok-inode.ensures.value
+plan_entries-requires-clause-inode g c = subst (λ (f : BlockWords). IsInode f c.args.dir.0 c.in_ok-inode.inode) (sym c.in_ok-inode.ensures.read.looks.looks.words) c.in_ok-inode.ensures.value
 
 pub read_entry-requires-clause-inode : goal.read_entry-requires-clause-inode
-read_entry-requires-clause-inode g c = subst (λ (f : BlockWords). IsInode f c.args.dir.0 c.in_ok-inode.inode) (sym c.in_ok-inode.ensures.looks.looks.words) c.in_ok-inode.ensures.value
+read_entry-requires-clause-inode g c = subst (λ (f : BlockWords). IsInode f c.args.dir.0 c.in_ok-inode.inode) (sym c.in_ok-inode.ensures.read.looks.looks.words) c.in_ok-inode.ensures.value
 
 pub plan_entry-requires-clause-inode : goal.plan_entry-requires-clause-inode
-plan_entry-requires-clause-inode g c = subst (λ (f : BlockWords). IsInode f c.args.dir.0 c.in_ok-inode.inode) (sym (c.read_entry.ensures.looks.looks.words ∙ c.in_ok-inode.ensures.looks.looks.words)) c.in_ok-inode.ensures.value
+plan_entry-requires-clause-inode g c = subst (λ (f : BlockWords). IsInode f c.args.dir.0 c.in_ok-inode.inode) (sym (c.read_entry.ensures.read.looks.looks.words ∙ c.in_ok-inode.ensures.read.looks.looks.words)) c.in_ok-inode.ensures.value
 
 pub last_slot-last-requires-clause-some : goal.last_slot-last-requires-clause-some
 last_slot-last-requires-clause-some g c = (has_room _ _ _ _ _ _ c.requires.ready c.requires.entries c.requires.slot c.in_ok-inode.ensures.value).some
@@ -136,3 +134,9 @@ plan_entry-requires-clause-whole g c = (has_room _ _ _ _ _ _ c.requires.ready c.
 
 pub plan_entry-requires-clause-slot : goal.plan_entry-requires-clause-slot
 plan_entry-requires-clause-slot g c = room_before _ _ _ (has_room _ _ _ _ _ _ c.requires.ready c.requires.entries c.requires.slot c.in_ok-inode.ensures.value) c.last_slot-last.ensures c.if-slot-last.false
+
+pub dir_inode-requires : goal.dir_inode-requires
+dir_inode-requires g c = record { can = record { keeps = c.requires.sound; meets = can_read _ _ _ c.requires.ready.order.has_shape c.requires.ready.order.mapped c.requires.ready.order.named c.requires.entries c.requires.slot.dir } }
+
+pub read_entry-requires-clause-can : goal.read_entry-requires-clause-can
+read_entry-requires-clause-can g c = record { keeps = c.dir_inode.ensures.read.keeps; meets = c.dir_inode.ensures.can }
