@@ -17,7 +17,7 @@ use Rattle.node_pages.proofs.OrderRules.{firm_layout}
 use Rattle.node_pages.specs.LookingUp.{LooksUp}
 use Rattle.rio_model.specs.VolumeReady.{AllNamed, Firmly}
 use Rattle.rio_model.proofs.NamedRules.{named_layout}
-use Rattle.region_view.specs.Views.{CanRead, IsWordName, IsWordPage}
+use Rattle.region_view.specs.Views.{LooksWords, CanReadWords, IsWordName, IsWordPage}
 use Rattle.rio_model.specs.RegionMoves.{RestHeld}
 use Rattle.region_view.proofs.RegionParts.{put_none}
 use Rattle.region_view.proofs.RegionHeader.{HasHeader, has_header, used_size}
@@ -46,7 +46,7 @@ pub direct_page : (shape : VolumeShape) (f : BlockWords) (i at : ℕ) (n : Inode
 direct_page shape f i at n mapped region less is few = word_page shape f f i at _ mapped region less (is.direct (at / 512) few ∙ direct_of f i (placed_at f i) (at / 512) (lies_self f i) few (page_owned shape f i at mapped region less).slot) refl
 
 -- it is one of the volume's
-pub page_below : (shape : VolumeShape) (y : Seen) (i at b : ℕ) → CanRead shape y → IsWordPage shape y.words i at b → b < y.count
+pub page_below : (shape : VolumeShape) (y : Seen) (i at b : ℕ) → CanReadWords shape y → IsWordPage shape y.words i at b → b < y.count
 page_below shape y i at b can h = subst (λ n. b < n) (sym can.has_shape.count) (subst (λ c. c < shape.blocks) (sym h.block) (can.mapped.laid.numbers.each i h.own.ino (AtPage (at / 512)) h.own.slot).1)
 
 -- ---- the name that it is asked for under
@@ -58,7 +58,7 @@ same_name : (i : ℕ) (n : Placed) (at : ℕ) (own : Option PageName) (name : Pa
 same_name i n at None name kind is bears = absurd (omega (arith, kind, bears))
 same_name i n at (Some own) name kind is bears = (ap (λ (m : ℕ). record { 0 = m }) (bears.1.file ∙ sym is.file), bears.1.index ∙ sym is.index)
 
-pub can_name : (shape : VolumeShape) (y : Seen) (i at b : ℕ) (name : PageName) → CanRead shape y → IsWordPage shape y.words i at b → IsWordName i at name → CanName y b (Some name)
+pub can_name : (shape : VolumeShape) (y : Seen) (i at b : ℕ) (name : PageName) → CanReadWords shape y → IsWordPage shape y.words i at b → IsWordName i at name → CanName y b (Some name)
 can_name shape y i at b name can h is = record {
   in_range = (let from = h.own.ino.from in let to = h.own.ino.to in let most = can.mapped.laid.shape_fits.inodes_to in let file = is.file in let index = is.index in let size = is.size in let within = h.within in let largest = (can.mapped.laid.sizes.each i h.own.ino h.own.slot.used).most in record {
     file_from = omega (arith, from, file);
@@ -123,11 +123,11 @@ pub stored_read : (x y : Seen) (b : ℕ) (name : Option PageName) → Caches x y
 stored_read x y b name h = record { others = h.others; named = λ on. elim (h.named on) [ inl kept ↦ inl kept | inr is ↦ inr (inl is) ] }
 
 -- a volume that is ready can be read
-pub reads_ready : (shape : VolumeShape) (x : Seen) (k : Kept) → Ready shape x k → CanRead shape x
+pub reads_ready : (shape : VolumeShape) (x : Seen) (k : Kept) → Ready shape x k → CanReadWords shape x
 reads_ready shape x k h = record { has_shape = h.order.has_shape; mapped = h.order.mapped; named = h.order.named }
 
 -- and one that was only read since is ready still
-pub ready_read : (shape : VolumeShape) (s t : Health) (o n : Below) (x y : Seen) (k j : Kept) → Ready shape x k → CanRead shape y → y.words ≡ x.words → Passes s o k t n j → Ready shape y j
+pub ready_read : (shape : VolumeShape) (s t : Health) (o n : Below) (x y : Seen) (k j : Kept) → Ready shape x k → CanReadWords shape y → y.words ≡ x.words → Passes s o k t n j → Ready shape y j
 ready_read shape s t o n x y k j h can same passes = ready_order shape y j (record {
   has_shape = can.has_shape;
   mapped = can.mapped;
@@ -136,23 +136,29 @@ ready_read shape s t o n x y k j h can same passes = ready_order shape y j (reco
 }) (passes.updating ∙ h.idle)
 
 -- it can be read after block numbers were looked up
-pub can_looked : (shape : VolumeShape) (x y : Seen) → CanRead shape x → LooksUp shape x y → CanRead shape y
+pub can_looked : (shape : VolumeShape) (x y : Seen) → CanReadWords shape x → LooksUp shape x y → CanReadWords shape y
 can_looked shape x y h looks = record {
   has_shape = looks.still.has_shape;
   mapped = subst (IsMapped shape) (sym looks.looks.words) h.mapped;
   named = subst (λ f. AllNamed (volume_layout shape f) y) (sym looks.looks.words) (named_on shape x y h.mapped h.named looks);
 }
 
+pub words_refl : (shape : VolumeShape) (x : Seen) → CanReadWords shape x → LooksWords shape x x
+words_refl shape x can = record { words = refl; can = can }
+
+pub words_trans : (shape : VolumeShape) (x y z : Seen) → LooksWords shape x y → LooksWords shape y z → LooksWords shape x z
+words_trans shape x y z h k = record { words = k.words ∙ h.words; can = k.can }
+
 -- nothing is loose, and no update is open
 stands_still : Seen → Kept
 stands_still x = record { standing = x.words; loose = λ b. false; updating = false; touched = λ b. false; touches = 0 }
 
-still_ready : (shape : VolumeShape) (x : Seen) → CanRead shape x → Ready shape x (stands_still x)
+still_ready : (shape : VolumeShape) (x : Seen) → CanReadWords shape x → Ready shape x (stands_still x)
 unfolding stands_still
 still_ready shape x h = ready_order shape x (stands_still x) (record { has_shape = h.has_shape; mapped = h.mapped; named = h.named; firm = record { low = λ b less. refl; owned = λ n s own. refl } }) refl
 
 -- and after a page of a region was read
-pub can_page : (shape : VolumeShape) (x y : Seen) (i at b : ℕ) (given : PageName) → CanRead shape x → IsWordPage shape x.words i at b → IsWordName i at given → Looks x y → Caches x y b (Some given) → CanRead shape y
+pub can_page : (shape : VolumeShape) (x y : Seen) (i at b : ℕ) (given : PageName) → CanReadWords shape x → IsWordPage shape x.words i at b → IsWordName i at given → Looks x y → Caches x y b (Some given) → CanReadWords shape y
 unfolding stands_still
 can_page shape x y i at b given h on name looks caches =
     reads_ready shape y (stands_still x) (page_done shape x (stands_still x) y (stands_still x) i at b given (still_ready shape x h) on name looks.count (record { others = λ c w away. ap (λ (f : BlockWords). f c w) looks.words }) (firm_refl (stands_still x)) (stored_read x y b (Some given) caches) refl).ready
@@ -226,13 +232,13 @@ run_put shape f i at b w m words mapped h place within most =
 
 -- ---- what a store leaves, by what the region held at first
 
-pub one_put : (shape : VolumeShape) (f g : BlockWords) (y : Seen) (i at b w v : ℕ) → CanRead shape y → IsWordPage shape y.words i at b → w ≡ at % 512 → y.words ≡ f → g ≡ put y.words b w v → (held_of shape g i).word ≡ put_word (held_of shape f i).word at v
+pub one_put : (shape : VolumeShape) (f g : BlockWords) (y : Seen) (i at b w v : ℕ) → CanReadWords shape y → IsWordPage shape y.words i at b → w ≡ at % 512 → y.words ≡ f → g ≡ put y.words b w v → (held_of shape g i).word ≡ put_word (held_of shape f i).word at v
 one_put shape f g y i at b w v can on place same is =
     ap (λ e. (held_of shape e i).word) is
     ∙ word_put shape y.words i at b w v can.mapped on place
     ∙ ap (λ e. put_word (held_of shape e i).word at v) same
 
-pub one_either : (shape : VolumeShape) (f g : BlockWords) (y : Seen) (i at b w v : ℕ) → CanRead shape y → IsWordPage shape y.words i at b → w ≡ at % 512 → y.words ≡ f → OldOrPut y.words g b w v → OldOrPutWord (held_of shape f i).word (held_of shape g i).word at v
+pub one_either : (shape : VolumeShape) (f g : BlockWords) (y : Seen) (i at b w v : ℕ) → CanReadWords shape y → IsWordPage shape y.words i at b → w ≡ at % 512 → y.words ≡ f → OldOrPut y.words g b w v → OldOrPutWord (held_of shape f i).word (held_of shape g i).word at v
 one_either shape f g y i at b w v can on place same (inl old) = inl (ap (λ e. (held_of shape e i).word) (old ∙ same))
 one_either shape f g y i at b w v can on place same (inr new) = inr (one_put shape f g y i at b w v can on place same new)
 
@@ -240,21 +246,21 @@ pub one_same_but : (f g : BlockWords) (b w v : ℕ) → OldOrPut f g b w v → S
 one_same_but f g b w v (inl old) = record { others = λ c x away. ap (λ (h : BlockWords). h c x) old }
 one_same_but f g b w v (inr new) = subst (SameBut b f) (sym new) (put_same_but f b w v)
 
-pub many_put : (shape : VolumeShape) (f g : BlockWords) (y : Seen) (i at b w m len : ℕ) (words : List ℕ) → CanRead shape y → IsWordPage shape y.words i at b → w ≡ at % 512 → m ≤ len → w + len ≤ 512 → 8 * (at + len) ≤ (held_of shape f i).size → y.words ≡ f → g ≡ put_run y.words b w m words → (held_of shape g i).word ≡ put_words (held_of shape f i).word at m words
+pub many_put : (shape : VolumeShape) (f g : BlockWords) (y : Seen) (i at b w m len : ℕ) (words : List ℕ) → CanReadWords shape y → IsWordPage shape y.words i at b → w ≡ at % 512 → m ≤ len → w + len ≤ 512 → 8 * (at + len) ≤ (held_of shape f i).size → y.words ≡ f → g ≡ put_run y.words b w m words → (held_of shape g i).word ≡ put_words (held_of shape f i).word at m words
 many_put shape f g y i at b w m len words can on place few within most same is =
     let size : 8 * (at + len) ≤ (held_of shape y.words i).size = subst (λ e. 8 * (at + len) ≤ (held_of shape e i).size) (sym same) most in
     ap (λ e. (held_of shape e i).word) is
     ∙ run_put shape y.words i at b w m words can.mapped on place (omega (arith, few, within)) (omega (arith, few, size))
     ∙ ap (λ e. put_words (held_of shape e i).word at m words) same
 
-pub many_front : (shape : VolumeShape) (f g : BlockWords) (y : Seen) (i at b w len : ℕ) (words : List ℕ) → CanRead shape y → IsWordPage shape y.words i at b → w ≡ at % 512 → w + len ≤ 512 → 8 * (at + len) ≤ (held_of shape f i).size → y.words ≡ f → OldOrRun y.words g b w words len → OldOrPutWords (held_of shape f i).word (held_of shape g i).word at words len
+pub many_front : (shape : VolumeShape) (f g : BlockWords) (y : Seen) (i at b w len : ℕ) (words : List ℕ) → CanReadWords shape y → IsWordPage shape y.words i at b → w ≡ at % 512 → w + len ≤ 512 → 8 * (at + len) ≤ (held_of shape f i).size → y.words ≡ f → OldOrRun y.words g b w words len → OldOrPutWords (held_of shape f i).word (held_of shape g i).word at words len
 many_front shape f g y i at b w len words can on place within most same (m, few, is) = (m, few, many_put shape f g y i at b w m len words can on place few within most same is)
 
 pub many_same_but : (f g : BlockWords) (b w len : ℕ) (words : List ℕ) → OldOrRun f g b w words len → SameBut b f g
 many_same_but f g b w len words (m, few, is) = subst (SameBut b f) (sym is) (run_same_but f b w m words)
 
 -- what is held beside the region, after a change of this page alone
-pub rest_by : (shape : VolumeShape) (f g : BlockWords) (y : Seen) (i at b : ℕ) → CanRead shape y → IsWordPage shape y.words i at b → y.words ≡ f → SameBut b y.words g → RestHeld shape i f g
+pub rest_by : (shape : VolumeShape) (f g : BlockWords) (y : Seen) (i at b : ℕ) → CanReadWords shape y → IsWordPage shape y.words i at b → y.words ≡ f → SameBut b y.words g → RestHeld shape i f g
 rest_by shape f g y i at b can on same but = subst (λ e. RestHeld shape i e g) same (rest_held shape i y.words g can.mapped on.own.ino (beside_page (volume_layout shape y.words) i (at / 512) y.words g can.mapped.laid on.own (subst (λ c. SameBut c y.words g) on.block but)))
 
 -- nothing was stored

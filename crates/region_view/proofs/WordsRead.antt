@@ -3,7 +3,7 @@ use Rattle.region_view.proofs.Common.{◌≡◌, ℕ, ◌+◌, ◌*◌, ◌/◌,
 use Rattle.std.specs.Prelude.{IfOk}
 use Rattle.rio_base.specs.Blocks.{IsRun, IsSpan}
 use Rattle.rio_base.specs.Regions.{AreWords}
-use Rattle.region_view.specs.Views.{CanRead, IsWordPage}
+use Rattle.region_view.specs.Views.{CanReadWords, IsWordPage}
 use Rattle.region_view.proofs.RegionHeader.{used_size}
 use Rattle.region_view.proofs.RegionPlaces.{page_below}
 
@@ -41,7 +41,7 @@ words_read (Ok x) shape f y i at b n words on same within most run = run_words s
 words_read (Err e) shape f y i at b n words on same within most run = tt
 
 -- a run lies in its block
-pub run_span : (shape : VolumeShape) (y : Seen) (i at b n : ℕ) → CanRead shape y → IsWordPage shape y.words i at b → at % 512 + n ≤ 512 → IsSpan y b (at % 512) n
+pub run_span : (shape : VolumeShape) (y : Seen) (i at b n : ℕ) → CanReadWords shape y → IsWordPage shape y.words i at b → at % 512 + n ≤ 512 → IsSpan y b (at % 512) n
 run_span shape y i at b n can on within = record { block = page_below shape y i at b can on; within = within }
 
 -- its first word is one of the region's

@@ -19,10 +19,15 @@ use Rattle.inode_table.specs.declared.inode.Inode.{Inode}
 use Rattle.inode_table.specs.Inodes.{IsInode}
 
 -- the words of regions can be read: the blocks keep the rules of a volume, and cached pages bear their names
-pub record CanRead (shape : VolumeShape) (x : Seen) : Type 0 where
+pub record CanReadWords (shape : VolumeShape) (x : Seen) : Type 0 where
   pub has_shape : HasShape shape x
   pub mapped : IsMapped shape x.words
   pub named : AllNamed (volume_layout shape x.words) x
+
+-- they were read: no word differs, and they can be read again
+pub record LooksWords (shape : VolumeShape) (x y : Seen) : Type 0 where
+  pub words : y.words ≡ x.words
+  pub can : CanReadWords shape y
 
 -- inode i is a region of so many words, and the volume is ready for a call that changes it
 pub record OnRegion (shape : VolumeShape) (x : Seen) (k : Kept) (i words : ℕ) : Type 0 where

@@ -2,6 +2,7 @@
 //! block of each page once.
 
 ghost use Rattle.std.specs.Prelude.{◌≡◌, ◌+◌, ◌*◌, ◌/◌, ◌%◌, ◌^◌, ◌<◌, ◌≤◌, IfOk, IsErrOf, OnOk, length};
+ghost use Rattle.rio_base.specs.Frames.{CanRead, ReadBy};
 ghost use Rattle.rio_base.specs.Blocks.{Ends, FaultAt, as_word};
 ghost use Rattle.rio_base.specs.Regions.{AreWords, OldOrPutWord, OldOrPutWords, put_word, put_words};
 ghost use Rattle.rio_base.specs.Volume.{Goes};
@@ -9,7 +10,7 @@ ghost use Rattle.rio_base.specs.NodeKinds.{region_kind};
 ghost use Rattle.rio_model.specs.Held.{held_of};
 ghost use Rattle.rio_model.specs.VolumeReady.{Ready};
 ghost use Rattle.inode_table.specs.Inodes.{IsInode};
-ghost use Rattle.region_view.specs.Views.{CanRead, IsWordName, IsWordPage};
+ghost use Rattle.region_view.specs.Views.{CanReadWords, IsWordName, IsWordPage, LooksWords};
 ghost use Rattle.rio_model.specs.RegionMoves.{RestHeld};
 
 use inode_table::{DIRECT_PAGES, Inode};
@@ -48,17 +49,12 @@ fn page_block<V: Blocks>(
     inode: &Inode,
     at: u32,
 ) -> Result<Block, VolFail>
-    requires sound { V.sound v.old }
-    requires can { CanRead shape.now (V.seen v.old) }
+    requires can { CanRead V.seen V.sound (CanReadWords shape.now) v.old }
     requires region { (held_of shape.now (V.seen v.old).words i.0).kind ≡ region_kind }
     requires inode { IsInode (V.seen v.old).words i.0 inode.now }
     requires place { 8 * at < (held_of shape.now (V.seen v.old).words i.0).size }
     ensures page { IfOk result (λ b. IsWordPage shape.now (V.seen v.new).words i.0 at b.0) }
-    ensures words { (V.seen v.new).words ≡ (V.seen v.old).words }
-    ensures can { CanRead shape.now (V.seen v.new) }
-    ensures passes { V.passes v.old v.new }
-    ensures ends { Ends (V.health v.old) (V.health v.new) result }
-    ensures sound { V.sound v.new }
+    ensures read { ReadBy V.seen V.health V.sound V.passes (LooksWords shape.now) v.old v.new result }
 {
     let page = at / PAGE_WORDS;
     if page < DIRECT_PAGES {
@@ -110,8 +106,7 @@ fn read_part<V: Blocks>(
     at: u32,
     into: &mut [u64],
 ) -> Result<(), VolFail>
-    requires sound { V.sound v.old }
-    requires can { CanRead shape.now (V.seen v.old) }
+    requires can { CanRead V.seen V.sound (CanReadWords shape.now) v.old }
     requires region { (held_of shape.now (V.seen v.old).words i.0).kind ≡ region_kind }
     requires inode { IsInode (V.seen v.old).words i.0 inode.now }
     requires some { 0 < length into.old }
@@ -119,11 +114,7 @@ fn read_part<V: Blocks>(
     requires place { 8 * (at + length into.old) ≤ (held_of shape.now (V.seen v.old).words i.0).size }
     ensures value { OnOk result (AreWords (held_of shape.now (V.seen v.old).words i.0).word at (length into.old) into.new) }
     ensures len { length into.new ≡ length into.old }
-    ensures words { (V.seen v.new).words ≡ (V.seen v.old).words }
-    ensures can { CanRead shape.now (V.seen v.new) }
-    ensures passes { V.passes v.old v.new }
-    ensures ends { Ends (V.health v.old) (V.health v.new) result }
-    ensures sound { V.sound v.new }
+    ensures read { ReadBy V.seen V.health V.sound V.passes (LooksWords shape.now) v.old v.new result }
 {
     let b = page_block(v, shape, i, inode, at)?;
     v.read_run(b, Some(page_name(i, at)), (at % PAGE_WORDS) as u16, into)
@@ -140,8 +131,7 @@ fn read_more<V: Blocks>(
     done: usize,
     into: &mut [u64],
 ) -> Result<usize, VolFail>
-    requires sound { V.sound v.old }
-    requires can { CanRead shape.now (V.seen v.old) }
+    requires can { CanRead V.seen V.sound (CanReadWords shape.now) v.old }
     requires region { (held_of shape.now (V.seen v.old).words i.0).kind ≡ region_kind }
     requires inode { IsInode (V.seen v.old).words i.0 inode.now }
     requires some { done < length into.old }
@@ -150,11 +140,7 @@ fn read_more<V: Blocks>(
     requires value { AreWords (held_of shape.now (V.seen v.old).words i.0).word at done into.old }
     ensures more { IfOk result (λ n. (done < n) × (n ≤ length into.old) × AreWords (held_of shape.now (V.seen v.old).words i.0).word at n into.new) }
     ensures len { length into.new ≡ length into.old }
-    ensures words { (V.seen v.new).words ≡ (V.seen v.old).words }
-    ensures can { CanRead shape.now (V.seen v.new) }
-    ensures passes { V.passes v.old v.new }
-    ensures ends { Ends (V.health v.old) (V.health v.new) result }
-    ensures sound { V.sound v.new }
+    ensures read { ReadBy V.seen V.health V.sound V.passes (LooksWords shape.now) v.old v.new result }
 {
     let first = at + done as u32;
     let end = done + in_page(first, into.len() - done);
@@ -173,7 +159,7 @@ pub fn read_words<V: Blocks>(
     into: &mut [u64],
 ) -> Result<(), VolFail>
     requires sound { V.sound v.old }
-    requires can { CanRead shape.now (V.seen v.old) }
+    requires can { CanReadWords shape.now (V.seen v.old) }
     requires region { (held_of shape.now (V.seen v.old).words i.0).kind ≡ region_kind }
     requires inode { IsInode (V.seen v.old).words i.0 inode.now }
     requires few { at + length into.old < 2 ^ 32 }
@@ -181,7 +167,7 @@ pub fn read_words<V: Blocks>(
     ensures value { OnOk result (AreWords (held_of shape.now (V.seen v.old).words i.0).word at (length into.old) into.new) }
     ensures len { length into.new ≡ length into.old }
     ensures words { (V.seen v.new).words ≡ (V.seen v.old).words }
-    ensures can { CanRead shape.now (V.seen v.new) }
+    ensures can { CanReadWords shape.now (V.seen v.new) }
     ensures passes { V.passes v.old v.new }
     ensures ends { Ends (V.health v.old) (V.health v.new) result }
     ensures sound { V.sound v.new }

@@ -1,5 +1,5 @@
-use Rattle.region_view.proofs.Common.{err_from_is_err_and}
-use Rattle.node_pages.proofs.EndsOn.{ends_vol, ends_vol_ok, if_err}
+use Rattle.rio_base.proofs.Frames.{read_ok, read_value, read_on}
+use Rattle.node_pages.proofs.EndsOn.{if_err}
 use Rattle.region_view.proofs.RegionParts.{read_end, read_place, read_some, read_within, words_then, written_length}
 use Rattle.region_view.proofs.region_pages.read_more.Goals as goal
 
@@ -18,11 +18,6 @@ returns-in_err-read_part-clause-more g c = if_err c.from_residual.result _ c.fro
 pub returns-in_err-read_part-clause-len : goal.returns-in_err-read_part-clause-len
 returns-in_err-read_part-clause-len g c = written_length c.args.into.now _ c.args.done c.in_page.result (read_end c.args.done c.in_page.result _ c.requires.some c.in_page.ensures.some c.in_page.ensures.most).1 c.read_part.ensures.len
 
-pub returns-in_err-read_part-clause-ends : goal.returns-in_err-read_part-clause-ends
-returns-in_err-read_part-clause-ends g c =
-    let p = err_from_is_err_and c.from_residual.result c.from_residual.ensures.1 in
-    ends_vol _ _ c.read_part.result c.from_residual.result _ p.0 c.in_err-read_part.was p.1 p.2 c.read_part.ensures.ends
-
 pub returns-clause-more : goal.returns-clause-more
 returns-clause-more g c =
     let end = read_end c.args.done c.in_page.result _ c.requires.some c.in_page.ensures.some c.in_page.ensures.most in
@@ -31,5 +26,11 @@ returns-clause-more g c =
 pub returns-clause-len : goal.returns-clause-len
 returns-clause-len g c = written_length c.args.into.now _ c.args.done c.in_page.result (read_end c.args.done c.in_page.result _ c.requires.some c.in_page.ensures.some c.in_page.ensures.most).1 c.read_part.ensures.len
 
-pub returns-clause-ends : goal.returns-clause-ends
-returns-clause-ends g c = ends_vol_ok _ _ _ c.in_ok-read_part.ensures.ends.later c.in_ok-read_part.ensures.ends.cause
+pub returns-in_err-read_part-clause-read : goal.returns-in_err-read_part-clause-read
+returns-in_err-read_part-clause-read g c = read_on c.read_part.result c.from_residual.result c.in_err-read_part.was c.from_residual.ensures.1 c.read_part.ensures.read
+
+pub returns-clause-read : goal.returns-clause-read
+returns-clause-read g c = read_value _ (read_ok c.read_part.result _ c.in_ok-read_part.was c.read_part.ensures.read)
+
+pub read_part-requires-clause-can : goal.read_part-requires-clause-can
+read_part-requires-clause-can g c = c.requires.can

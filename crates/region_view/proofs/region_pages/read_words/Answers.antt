@@ -1,3 +1,4 @@
+use Rattle.rio_base.proofs.Frames.{vol_ends}
 use Rattle.rio_base.proofs.RegionRuns.{words_none}
 use Rattle.region_view.proofs.Common.{◌≡◌, ◌≤◌, ◌∙◌, arith, err_from_is_err_and, le_refl, le_trans, refl, subst, sym, held_of, IsInode}
 use Rattle.node_pages.proofs.EndsOn.{ends_vol, ends_vol_ok, if_err}
@@ -27,13 +28,16 @@ loop-done-preserved g c =
       within = subst (λ n. c.in_ok-done.done ≤ n) (sym call.len) call.more.1;
       value = words_as c.args.shape.now _ _ c.args.i.0 c.args.at _ _ inv.words call.more.2;
       len = call.len ∙ inv.len;
-      words = call.words ∙ inv.words;
-      can = call.can;
-      passes = g.met.V.Blocks.passes_trans _ _ _ inv.passes call.passes;
-      later = le_trans inv.later call.ends.later;
-      running = call.ends.cause ∙ inv.running;
-      sound = call.sound;
+      words = call.read.looks.words ∙ inv.words;
+      can = call.read.looks.can;
+      passes = g.met.V.Blocks.passes_trans _ _ _ inv.passes call.read.passed;
+      later = le_trans inv.later (vol_ends _ _ _ call.read.ends).later;
+      running = (vol_ends _ _ _ call.read.ends).cause ∙ inv.running;
+      sound = call.read.keeps;
     }
+
+pub read_more-requires-clause-can : goal.read_more-requires-clause-can
+read_more-requires-clause-can g c = record { keeps = c.loop-done.invariant.sound; meets = c.loop-done.invariant.can }
 
 pub read_more-requires-clause-region : goal.read_more-requires-clause-region
 read_more-requires-clause-region g c = subst (λ f. (held_of c.args.shape.now f c.args.i.0).kind ≡ 3) (sym c.loop-done.invariant.words) c.requires.region
@@ -60,15 +64,15 @@ pub returns-in_err-done-clause-len : goal.returns-in_err-done-clause-len
 returns-in_err-done-clause-len g c = c.read_more.ensures.len ∙ c.loop-done.invariant.len
 
 pub returns-in_err-done-clause-words : goal.returns-in_err-done-clause-words
-returns-in_err-done-clause-words g c = c.read_more.ensures.words ∙ c.loop-done.invariant.words
+returns-in_err-done-clause-words g c = c.read_more.ensures.read.looks.words ∙ c.loop-done.invariant.words
 
 pub returns-in_err-done-clause-passes : goal.returns-in_err-done-clause-passes
-returns-in_err-done-clause-passes g c = g.met.V.Blocks.passes_trans _ _ _ c.loop-done.invariant.passes c.read_more.ensures.passes
+returns-in_err-done-clause-passes g c = g.met.V.Blocks.passes_trans _ _ _ c.loop-done.invariant.passes c.read_more.ensures.read.passed
 
 pub returns-in_err-done-clause-ends : goal.returns-in_err-done-clause-ends
 returns-in_err-done-clause-ends g c =
     let p = err_from_is_err_and c.from_residual.result c.from_residual.ensures.1 in
-    ends_later _ _ _ c.from_residual.result c.loop-done.invariant.later c.loop-done.invariant.running (ends_vol _ _ c.read_more.result c.from_residual.result _ p.0 c.in_err-done.was p.1 p.2 c.read_more.ensures.ends)
+    ends_later _ _ _ c.from_residual.result c.loop-done.invariant.later c.loop-done.invariant.running (ends_vol _ _ c.read_more.result c.from_residual.result _ p.0 c.in_err-done.was p.1 p.2 (vol_ends _ _ _ c.read_more.ensures.read.ends))
 
 pub returns-clause-value : goal.returns-clause-value
 returns-clause-value g c =
