@@ -18,10 +18,10 @@ returns-clause-value g c = λ len.
     ∙ span_joined n (placed_at f c.args.i.0) c.args.first c.page_count-have.result c.min.result c.max.result c.args.end c.min.ensures c.max.ensures c.requires.order (omega (arith, have, c.requires.past)) (λ p few. page_old old len p taken (omega (arith, few, have)))
 
 pub returns-in_err-blocks-clause-ends : goal.returns-in_err-blocks-clause-ends
-returns-in_err-blocks-clause-ends g c = let p = err_from_is_err_and c.from_residual.result c.from_residual.ensures.1 in ends_read _ _ _ c.from_residual.result _ p.0 c.in_err-blocks.was p.1 p.2 c.page_blocks.ensures.ends
+returns-in_err-blocks-clause-ends g c = let p = err_from_is_err_and c.from_residual.result c.from_residual.ensures.1 in ends_read _ _ _ c.from_residual.result _ p.0 c.in_err-blocks.was p.1 p.2 c.page_blocks.ensures.read.ends
 
 pub returns-clause-ends : goal.returns-clause-ends
-returns-clause-ends g c = ends_read_on _ _ _ _ c.in_ok-blocks.ensures.ends
+returns-clause-ends g c = ends_read_on _ _ _ _ c.in_ok-blocks.ensures.read.ends
 
 pub page_blocks-requires-clause-order : goal.page_blocks-requires-clause-order
 page_blocks-requires-clause-order g c = omega (arith, c.min.ensures)
@@ -45,4 +45,7 @@ pub returns-in_err-push_taken-clause-value : goal.returns-in_err-push_taken-clau
 returns-in_err-push_taken-clause-value g c = if_err c.from_residual-in_err-push_taken.result _ c.from_residual-in_err-push_taken.ensures.0
 
 pub returns-in_err-push_taken-clause-ends : goal.returns-in_err-push_taken-clause-ends
-returns-in_err-push_taken-clause-ends g c = let p = err_from_is_err_and c.from_residual-in_err-push_taken.result c.from_residual-in_err-push_taken.ensures.1 in ends_read_memory _ _ c.from_residual-in_err-push_taken.result p.0 p.1 p.2 c.page_blocks.ensures.ends.later (read_runs _ _ _ c.in_ok-blocks.ensures.ends)
+returns-in_err-push_taken-clause-ends g c = let p = err_from_is_err_and c.from_residual-in_err-push_taken.result c.from_residual-in_err-push_taken.ensures.1 in ends_read_memory _ _ c.from_residual-in_err-push_taken.result p.0 p.1 p.2 c.page_blocks.ensures.read.ends.later (read_runs _ _ _ c.in_ok-blocks.ensures.read.ends)
+
+pub page_blocks-requires-clause-can : goal.page_blocks-requires-clause-can
+page_blocks-requires-clause-can g c = record { keeps = c.requires.sound; meets = c.requires.can }

@@ -1,3 +1,4 @@
+use Rattle.std.proofs.Common.{rules}
 use Rattle.node_pages.proofs.LookingUpRules.{can_look_up}
 use Rattle.node_pages.proofs.Ends.{read_runs}
 use Rattle.file_pages.proofs.Common.{◌≡◌, ◌-◌, ◌/◌, ◌≤◌, ◌∙◌, ◌∷◌, [], BlockWords, length, sym, ap, arith, inl, err_from_is_err_and, ◌then◌, ends_by_after, numbers, placed_at, volume_layout, numbered_of, largest_size, LeavesInUse}
@@ -18,21 +19,18 @@ returns-in_err-blocks-clause-leaves g c =
     let j = g.V.Volume.kept c.page_blocks.new.v in
     let i = c.args.i.0 in
     let call = c.page_blocks.ensures in
-    let looked : LeavesInUse (volume_layout shape x.words) x k y j = leaves_looked shape _ _ _ _ x y k j c.requires.ready call.looks (g.met.V.Volume.passes_keeps _ _ call.passes) in
+    let looked : LeavesInUse (volume_layout shape x.words) x k y j = leaves_looked shape _ _ _ _ x y k j c.requires.ready call.read.looks (g.met.V.Volume.passes_keeps _ _ call.read.passed) in
     let p = err_from_is_err_and c.from_residual.result c.from_residual.ensures.1 in
     none_read shape x k y j i c.args.off c.args.bytes.now c.from_residual.result _ p.0 p.1 p.2 c.requires.ready (g.met.V.Volume.settled _ c.requires.sound) (held_file shape x.words i c.requires.ino (sym c.requires.inode.kind ∙ c.requires.file)) looked
 
 pub returns-in_err-blocks-clause-goes : goal.returns-in_err-blocks-clause-goes
-returns-in_err-blocks-clause-goes g c = (g.met.V.Volume.passes_keeps _ _ c.page_blocks.ensures.passes).goes
-
-pub page_blocks-requires-clause-can : goal.page_blocks-requires-clause-can
-page_blocks-requires-clause-can g c = can_look_up c.args.shape.now _ c.requires.ready.order.has_shape c.requires.ready.order.mapped c.requires.ready.order.named
+returns-in_err-blocks-clause-goes g c = (g.met.V.Volume.passes_keeps _ _ c.page_blocks.ensures.read.passed).goes
 
 pub page_blocks-requires-clause-inode : goal.page_blocks-requires-clause-inode
 page_blocks-requires-clause-inode g c = inl (c.requires.inode, omega (arith, c.requires.file))
 
 pub returns-in_err-blocks-clause-ends : goal.returns-in_err-blocks-clause-ends
-returns-in_err-blocks-clause-ends g c = let p = err_from_is_err_and c.from_residual.result c.from_residual.ensures.1 in ends_write_read _ _ c.page_blocks.result c.from_residual.result _ p.0 c.in_err-blocks.was p.1 p.2 c.page_blocks.ensures.ends
+returns-in_err-blocks-clause-ends g c = let p = err_from_is_err_and c.from_residual.result c.from_residual.ensures.1 in ends_write_read _ _ c.page_blocks.result c.from_residual.result _ p.0 c.in_err-blocks.was p.1 p.2 c.page_blocks.ensures.read.ends
 
 pub returns-in_err-blocks-clause-small : goal.returns-in_err-blocks-clause-small
 returns-in_err-blocks-clause-small g c = let p = err_from_is_err_and c.from_residual.result c.from_residual.ensures.1 in (read_unrefused c.from_residual.result _ _ p.1 p.2).1
@@ -66,14 +64,14 @@ write_pages-requires-2-clause-ready g c =
     let y = g.V.Blocks.seen c.page_blocks.new.v in
     let j = g.V.Volume.kept c.page_blocks.new.v in
     let call = c.page_blocks.ensures in
-    let looked : LeavesInUse (volume_layout shape x.words) x k y j = leaves_looked shape _ _ _ _ x y k j c.requires.ready call.looks (g.met.V.Volume.passes_keeps _ _ call.passes) in
+    let looked : LeavesInUse (volume_layout shape x.words) x k y j = leaves_looked shape _ _ _ _ x y k j c.requires.ready call.read.looks (g.met.V.Volume.passes_keeps _ _ call.read.passed) in
     ready_left shape x k y j c.requires.ready looked
 
 pub write_pages-requires-2-clause-file : goal.write_pages-requires-2-clause-file
-write_pages-requires-2-clause-file g c = ap (λ (f : BlockWords). (placed_at f c.args.i.0).kind) c.page_blocks.ensures.looks.looks.words ∙ sym c.requires.inode.kind ∙ c.requires.file
+write_pages-requires-2-clause-file g c = ap (λ (f : BlockWords). (placed_at f c.args.i.0).kind) c.page_blocks.ensures.read.looks.looks.words ∙ sym c.requires.inode.kind ∙ c.requires.file
 
 pub write_pages-requires-2-clause-size : goal.write_pages-requires-2-clause-size
-write_pages-requires-2-clause-size g c = c.requires.inode.size ∙ sym (ap (λ (f : BlockWords). (placed_at f c.args.i.0).size) c.page_blocks.ensures.looks.looks.words)
+write_pages-requires-2-clause-size g c = c.requires.inode.size ∙ sym (ap (λ (f : BlockWords). (placed_at f c.args.i.0).size) c.page_blocks.ensures.read.looks.looks.words)
 
 pub write_pages-requires-2-clause-to : goal.write_pages-requires-2-clause-to
 write_pages-requires-2-clause-to g c =
@@ -117,7 +115,7 @@ write_pages-requires-2-clause-blocks g c =
     let x = g.V.Blocks.seen c.args.v.now in
     let y = g.V.Blocks.seen c.page_blocks.new.v in
     let i = c.args.i.0 in
-    looked_blocks x.words y.words i (c.args.off / 4096) (c.div_ceil-end.result - c.args.off / 4096) c.deref.result.now c.page_blocks.ensures.looks.looks.words (ap numbers c.deref.ensures.value ∙ c.in_ok-blocks.ensures.value)
+    looked_blocks x.words y.words i (c.args.off / 4096) (c.div_ceil-end.result - c.args.off / 4096) c.deref.result.now c.page_blocks.ensures.read.looks.looks.words (ap numbers c.deref.ensures.value ∙ c.in_ok-blocks.ensures.value)
 
 pub returns-clause-leaves : goal.returns-clause-leaves
 returns-clause-leaves g c =
@@ -127,11 +125,14 @@ returns-clause-leaves g c =
     let y = g.V.Blocks.seen c.page_blocks.new.v in
     let j = g.V.Volume.kept c.page_blocks.new.v in
     let call = c.page_blocks.ensures in
-    let looked : LeavesInUse (volume_layout shape x.words) x k y j = leaves_looked shape _ _ _ _ x y k j c.requires.ready call.looks (g.met.V.Volume.passes_keeps _ _ call.passes) in
-    write_after shape x k y j (g.V.Blocks.seen c.write_pages-2.new.v) (g.V.Volume.kept c.write_pages-2.new.v) c.args.i.0 c.args.off c.args.bytes.now c.write_pages-2.result c.requires.ready call.looks.looks.words looked c.write_pages-2.ensures.leaves
+    let looked : LeavesInUse (volume_layout shape x.words) x k y j = leaves_looked shape _ _ _ _ x y k j c.requires.ready call.read.looks (g.met.V.Volume.passes_keeps _ _ call.read.passed) in
+    write_after shape x k y j (g.V.Blocks.seen c.write_pages-2.new.v) (g.V.Volume.kept c.write_pages-2.new.v) c.args.i.0 c.args.off c.args.bytes.now c.write_pages-2.result c.requires.ready call.read.looks.looks.words looked c.write_pages-2.ensures.leaves
 
 pub returns-clause-goes : goal.returns-clause-goes
-returns-clause-goes g c = (g.met.V.Volume.passes_keeps _ _ c.page_blocks.ensures.passes).goes then c.write_pages-2.ensures.goes
+returns-clause-goes g c = (g.met.V.Volume.passes_keeps _ _ c.page_blocks.ensures.read.passed).goes then c.write_pages-2.ensures.goes
 
 pub returns-clause-ends : goal.returns-clause-ends
-returns-clause-ends g c = ends_by_after _ _ _ _ _ c.page_blocks.ensures.ends.later (read_runs _ _ _ c.in_ok-blocks.ensures.ends) c.write_pages-2.ensures.ends
+returns-clause-ends g c = ends_by_after _ _ _ _ _ c.page_blocks.ensures.read.ends.later (read_runs _ _ _ c.in_ok-blocks.ensures.read.ends) c.write_pages-2.ensures.ends
+
+pub page_blocks-requires-clause-can : goal.page_blocks-requires-clause-can
+page_blocks-requires-clause-can g c = record { keeps = (search rules); meets = can_look_up c.args.shape.now _ c.requires.ready.order.has_shape c.requires.ready.order.mapped c.requires.ready.order.named }

@@ -1,3 +1,4 @@
+use Rattle.std.proofs.Common.{rules}
 use Rattle.node_pages.proofs.EndsOn.{if_err}
 use Rattle.node_pages.proofs.Ends.{ends_read, ends_read_ok, read_runs, read_still, read_still_memory}
 use Rattle.file_pages.proofs.Common.{◌≡◌, ◌/◌, ◌∙◌, length, sym, ap, subst, arith, inl, placed_at, volume_layout, AllNamed, numbers, err_from_is_err_and, ends_by_after, le_trans, IsMapped}
@@ -10,7 +11,7 @@ use Rattle.file_pages.proofs.reading.read_bytes.Goals as goal
 pub push_pages-requires-clause-named : goal.push_pages-requires-clause-named
 push_pages-requires-clause-named g c =
     let shape = c.args.shape.now in
-    let looks = c.page_blocks.ensures.looks in
+    let looks = c.page_blocks.ensures.read.looks in
     let y = g.V.Blocks.seen c.page_blocks.new.v in
     subst (λ f. AllNamed (volume_layout shape f) y) (sym looks.looks.words) (named_on shape _ y c.requires.mapped c.requires.named looks)
 
@@ -21,7 +22,7 @@ push_pages-requires-clause-blocks g c =
     let first = c.args.off / 4096 in
     let is = c.in_ok-blocks.ensures.value in
     let many = many_blocks c.in_ok-blocks.blocks.items (placed_at x.words i) first _ is in
-    ap numbers c.deref.ensures.value ∙ is ∙ (λ q. page_blocks (placed_at (sym c.page_blocks.ensures.looks.looks.words q) i) first ((sym many ∙ sym (ap length c.deref.ensures.value)) q))
+    ap numbers c.deref.ensures.value ∙ is ∙ (λ q. page_blocks (placed_at (sym c.page_blocks.ensures.read.looks.looks.words q) i) first ((sym many ∙ sym (ap length c.deref.ensures.value)) q))
 
 pub push_pages-requires-clause-all : goal.push_pages-requires-clause-all
 push_pages-requires-clause-all g c =
@@ -31,28 +32,25 @@ push_pages-requires-clause-all g c =
     omega (arith, many, same, c.div_ceil-last.ensures, c.if-off-end.false)
 
 pub returns-in_err-push_pages-clause-looks : goal.returns-in_err-push_pages-clause-looks
-returns-in_err-push_pages-clause-looks g c = look_trans _ _ _ _ c.page_blocks.ensures.looks c.push_pages.ensures.looks
+returns-in_err-push_pages-clause-looks g c = look_trans _ _ _ _ c.page_blocks.ensures.read.looks c.push_pages.ensures.looks
 
 pub returns-clause-looks : goal.returns-clause-looks
-returns-clause-looks g c = look_trans _ _ _ _ c.page_blocks.ensures.looks c.push_pages.ensures.looks
-
-pub page_blocks-requires-clause-can : goal.page_blocks-requires-clause-can
-page_blocks-requires-clause-can g c = can_look_up c.args.shape.now _ c.requires.shape c.requires.mapped c.requires.named
+returns-clause-looks g c = look_trans _ _ _ _ c.page_blocks.ensures.read.looks c.push_pages.ensures.looks
 
 pub returns-in_err-blocks-clause-ends : goal.returns-in_err-blocks-clause-ends
-returns-in_err-blocks-clause-ends g c = let p = err_from_is_err_and c.from_residual-in_err-blocks.result c.from_residual-in_err-blocks.ensures.1 in ends_read _ _ _ c.from_residual-in_err-blocks.result _ p.0 c.in_err-blocks.was p.1 p.2 c.page_blocks.ensures.ends
+returns-in_err-blocks-clause-ends g c = let p = err_from_is_err_and c.from_residual-in_err-blocks.result c.from_residual-in_err-blocks.ensures.1 in ends_read _ _ _ c.from_residual-in_err-blocks.result _ p.0 c.in_err-blocks.was p.1 p.2 c.page_blocks.ensures.read.ends
 
 pub returns-in_err-push_pages-clause-passes : goal.returns-in_err-push_pages-clause-passes
-returns-in_err-push_pages-clause-passes g c = g.met.V.Blocks.passes_trans _ _ _ c.page_blocks.ensures.passes c.push_pages.ensures.passes
+returns-in_err-push_pages-clause-passes g c = g.met.V.Blocks.passes_trans _ _ _ c.page_blocks.ensures.read.passed c.push_pages.ensures.passes
 
 pub returns-clause-passes : goal.returns-clause-passes
-returns-clause-passes g c = g.met.V.Blocks.passes_trans _ _ _ c.page_blocks.ensures.passes c.push_pages.ensures.passes
+returns-clause-passes g c = g.met.V.Blocks.passes_trans _ _ _ c.page_blocks.ensures.read.passed c.push_pages.ensures.passes
 
 pub returns-in_err-push_pages-clause-ends : goal.returns-in_err-push_pages-clause-ends
-returns-in_err-push_pages-clause-ends g c = let p = err_from_is_err_and c.from_residual-in_err-push_pages.result c.from_residual-in_err-push_pages.ensures.1 in ends_by_after _ _ _ _ _ c.page_blocks.ensures.ends.later (read_runs _ _ _ c.in_ok-blocks.ensures.ends) (ends_read _ _ _ c.from_residual-in_err-push_pages.result _ p.0 c.in_err-push_pages.was p.1 p.2 c.push_pages.ensures.ends)
+returns-in_err-push_pages-clause-ends g c = let p = err_from_is_err_and c.from_residual-in_err-push_pages.result c.from_residual-in_err-push_pages.ensures.1 in ends_by_after _ _ _ _ _ c.page_blocks.ensures.read.ends.later (read_runs _ _ _ c.in_ok-blocks.ensures.read.ends) (ends_read _ _ _ c.from_residual-in_err-push_pages.result _ p.0 c.in_err-push_pages.was p.1 p.2 c.push_pages.ensures.ends)
 
 pub returns-clause-ends : goal.returns-clause-ends
-returns-clause-ends g c = ends_read_ok _ _ _ (le_trans c.page_blocks.ensures.ends.later c.push_pages.ensures.ends.later) (read_runs _ _ _ c.in_ok-push_pages.ensures.ends ∙ read_runs _ _ _ c.in_ok-blocks.ensures.ends)
+returns-clause-ends g c = ends_read_ok _ _ _ (le_trans c.page_blocks.ensures.read.ends.later c.push_pages.ensures.ends.later) (read_runs _ _ _ c.in_ok-push_pages.ensures.ends ∙ read_runs _ _ _ c.in_ok-blocks.ensures.read.ends)
 
 pub read_in_page-requires-clause-block : goal.read_in_page-requires-clause-block
 read_in_page-requires-clause-block g c =
@@ -95,13 +93,13 @@ pub page_blocks-requires-clause-order : goal.page_blocks-requires-clause-order
 page_blocks-requires-clause-order g c = omega (arith, c.div_ceil-last.ensures, c.if-off-end.false)
 
 pub push_pages-requires-clause-mapped : goal.push_pages-requires-clause-mapped
-push_pages-requires-clause-mapped g c = subst (IsMapped c.args.shape.now) (sym c.page_blocks.ensures.looks.looks.words) c.requires.mapped
+push_pages-requires-clause-mapped g c = subst (IsMapped c.args.shape.now) (sym c.page_blocks.ensures.read.looks.looks.words) c.requires.mapped
 
 pub push_pages-requires-clause-file : goal.push_pages-requires-clause-file
-push_pages-requires-clause-file g c = subst (λ f. (placed_at f c.args.i.0).kind ≡ 2) (sym c.page_blocks.ensures.looks.looks.words) c.requires.file
+push_pages-requires-clause-file g c = subst (λ f. (placed_at f c.args.i.0).kind ≡ 2) (sym c.page_blocks.ensures.read.looks.looks.words) c.requires.file
 
 pub push_pages-requires-clause-size : goal.push_pages-requires-clause-size
-push_pages-requires-clause-size g c = subst (λ f. (placed_at f c.args.i.0).size ≡ c.args.inode.now.size) (sym c.page_blocks.ensures.looks.looks.words) (sym c.requires.inode.size)
+push_pages-requires-clause-size g c = subst (λ f. (placed_at f c.args.i.0).size ≡ c.args.inode.now.size) (sym c.page_blocks.ensures.read.looks.looks.words) (sym c.requires.inode.size)
 
 pub push_pages-requires-clause-order : goal.push_pages-requires-clause-order
 push_pages-requires-clause-order g c = omega (arith, c.if-off-end.false)
@@ -111,3 +109,6 @@ read_in_page-requires-clause-size g c = sym c.requires.inode.size
 
 pub read_in_page-requires-clause-order : goal.read_in_page-requires-clause-order
 read_in_page-requires-clause-order g c = omega (arith, c.if-off-end.false)
+
+pub page_blocks-requires-clause-can : goal.page_blocks-requires-clause-can
+page_blocks-requires-clause-can g c = record { keeps = (search rules); meets = can_look_up c.args.shape.now _ c.requires.shape c.requires.mapped c.requires.named }

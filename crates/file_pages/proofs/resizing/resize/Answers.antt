@@ -1,3 +1,5 @@
+use Rattle.rio_base.proofs.Frames.{vol_ends}
+use Rattle.std.proofs.Common.{rules}
 use Rattle.rio_base.specs.Rules.{goes_refl}
 use Rattle.node_pages.proofs.Ends.{ends_vol_size, refused_still, unrefused_vol}
 use Rattle.node_pages.proofs.EndsOn.{if_err}
@@ -38,9 +40,6 @@ returns-then-len-gt-LARGEST_SIZE-clause-ends g c = refused_still _
 pub look_inode-requires-clause-ino : goal.look_inode-requires-clause-ino
 look_inode-requires-clause-ino g c = file_ino c.args.shape.now (g.V.Blocks.seen c.args.v.now).words c.args.i.0 c.requires.file
 
-pub look_inode-requires-clause-can : goal.look_inode-requires-clause-can
-look_inode-requires-clause-can g c = can_look_up c.args.shape.now _ c.requires.ready.order.has_shape c.requires.ready.order.mapped c.requires.ready.order.named
-
 pub resize_at_inode-requires-clause-ready : goal.resize_at_inode-requires-clause-ready
 resize_at_inode-requires-clause-ready g c =
     let shape = c.args.shape.now in
@@ -48,14 +47,14 @@ resize_at_inode-requires-clause-ready g c =
     let k = g.V.Volume.kept c.args.v.now in
     let z = g.V.Blocks.seen c.look_inode.new.v in
     let l = g.V.Volume.kept c.look_inode.new.v in
-    let looked : LeavesInUse (volume_layout shape x.words) x k z l = leaves_looked shape _ _ _ _ x z k l c.requires.ready c.look_inode.ensures.looks (g.met.V.Volume.passes_keeps _ _ c.look_inode.ensures.passes) in
+    let looked : LeavesInUse (volume_layout shape x.words) x k z l = leaves_looked shape _ _ _ _ x z k l c.requires.ready c.look_inode.ensures.read.looks (g.met.V.Volume.passes_keeps _ _ c.look_inode.ensures.read.passed) in
     ready_left shape x k z l c.requires.ready looked
 
 pub resize_at_inode-requires-clause-inode : goal.resize_at_inode-requires-clause-inode
-resize_at_inode-requires-clause-inode g c = subst (λ f. IsInode f c.args.i.0 c.in_ok-inode.inode) (sym c.look_inode.ensures.looks.looks.words) c.in_ok-inode.ensures.value
+resize_at_inode-requires-clause-inode g c = subst (λ f. IsInode f c.args.i.0 c.in_ok-inode.inode) (sym c.look_inode.ensures.read.looks.looks.words) c.in_ok-inode.ensures.value
 
 pub resize_at_inode-requires-clause-file : goal.resize_at_inode-requires-clause-file
-resize_at_inode-requires-clause-file g c = subst (λ f. (held_of c.args.shape.now f c.args.i.0).kind ≡ 2) (sym c.look_inode.ensures.looks.looks.words) c.requires.file
+resize_at_inode-requires-clause-file g c = subst (λ f. (held_of c.args.shape.now f c.args.i.0).kind ≡ 2) (sym c.look_inode.ensures.read.looks.looks.words) c.requires.file
 
 pub returns-in_err-inode-clause-ok : goal.returns-in_err-inode-clause-ok
 returns-in_err-inode-clause-ok g c = if_err c.from_residual.result _ c.from_residual.ensures.0
@@ -79,7 +78,7 @@ returns-in_err-inode-clause-refused g c =
     let k = g.V.Volume.kept c.args.v.now in
     let z = g.V.Blocks.seen c.look_inode.new.v in
     let l = g.V.Volume.kept c.look_inode.new.v in
-    let looked : LeavesInUse (volume_layout shape x.words) x k z l = leaves_looked shape _ _ _ _ x z k l c.requires.ready c.look_inode.ensures.looks (g.met.V.Volume.passes_keeps _ _ c.look_inode.ensures.passes) in
+    let looked : LeavesInUse (volume_layout shape x.words) x k z l = leaves_looked shape _ _ _ _ x z k l c.requires.ready c.look_inode.ensures.read.looks (g.met.V.Volume.passes_keeps _ _ c.look_inode.ensures.read.passed) in
     λ is. looked
 
 pub returns-in_err-inode-clause-fault : goal.returns-in_err-inode-clause-fault
@@ -89,7 +88,7 @@ returns-in_err-inode-clause-fault g c =
     let k = g.V.Volume.kept c.args.v.now in
     let z = g.V.Blocks.seen c.look_inode.new.v in
     let l = g.V.Volume.kept c.look_inode.new.v in
-    let looked : LeavesInUse (volume_layout shape x.words) x k z l = leaves_looked shape _ _ _ _ x z k l c.requires.ready c.look_inode.ensures.looks (g.met.V.Volume.passes_keeps _ _ c.look_inode.ensures.passes) in
+    let looked : LeavesInUse (volume_layout shape x.words) x k z l = leaves_looked shape _ _ _ _ x z k l c.requires.ready c.look_inode.ensures.read.looks (g.met.V.Volume.passes_keeps _ _ c.look_inode.ensures.read.passed) in
     let p = err_from_is_err_and c.from_residual.result c.from_residual.ensures.1 in
     let i = c.args.i.0 in
     let len = c.args.len in
@@ -103,7 +102,7 @@ returns-in_err-inode-clause-stopped g c =
     let k = g.V.Volume.kept c.args.v.now in
     let z = g.V.Blocks.seen c.look_inode.new.v in
     let l = g.V.Volume.kept c.look_inode.new.v in
-    let looked : LeavesInUse (volume_layout shape x.words) x k z l = leaves_looked shape _ _ _ _ x z k l c.requires.ready c.look_inode.ensures.looks (g.met.V.Volume.passes_keeps _ _ c.look_inode.ensures.passes) in
+    let looked : LeavesInUse (volume_layout shape x.words) x k z l = leaves_looked shape _ _ _ _ x z k l c.requires.ready c.look_inode.ensures.read.looks (g.met.V.Volume.passes_keeps _ _ c.look_inode.ensures.read.passed) in
     let p = err_from_is_err_and c.from_residual.result c.from_residual.ensures.1 in
     let i = c.args.i.0 in
     let len = c.args.len in
@@ -117,23 +116,23 @@ returns-in_err-inode-clause-ready g c =
     let k = g.V.Volume.kept c.args.v.now in
     let z = g.V.Blocks.seen c.look_inode.new.v in
     let l = g.V.Volume.kept c.look_inode.new.v in
-    let looked : LeavesInUse (volume_layout shape x.words) x k z l = leaves_looked shape _ _ _ _ x z k l c.requires.ready c.look_inode.ensures.looks (g.met.V.Volume.passes_keeps _ _ c.look_inode.ensures.passes) in
+    let looked : LeavesInUse (volume_layout shape x.words) x k z l = leaves_looked shape _ _ _ _ x z k l c.requires.ready c.look_inode.ensures.read.looks (g.met.V.Volume.passes_keeps _ _ c.look_inode.ensures.read.passed) in
     inr (ready_left shape x k z l c.requires.ready looked)
 
 pub returns-in_err-inode-clause-goes : goal.returns-in_err-inode-clause-goes
-returns-in_err-inode-clause-goes g c = (g.met.V.Volume.passes_keeps _ _ c.look_inode.ensures.passes).goes
+returns-in_err-inode-clause-goes g c = (g.met.V.Volume.passes_keeps _ _ c.look_inode.ensures.read.passed).goes
 
 pub returns-in_err-inode-clause-ends : goal.returns-in_err-inode-clause-ends
-returns-in_err-inode-clause-ends g c = let p = err_from_is_err_and c.from_residual.result c.from_residual.ensures.1 in ends_vol_size _ _ _ c.from_residual.result _ p.0 c.in_err-inode.was p.1 p.2 c.look_inode.ensures.ends
+returns-in_err-inode-clause-ends g c = let p = err_from_is_err_and c.from_residual.result c.from_residual.ensures.1 in ends_vol_size _ _ _ c.from_residual.result _ p.0 c.in_err-inode.was p.1 p.2 (vol_ends _ _ _ c.look_inode.ensures.read.ends)
 
 pub returns-clause-ok : goal.returns-clause-ok
-returns-clause-ok g c = subst (λ f. OnOk c.resize_at_inode.result (SetsBoth c.args.shape.now f (g.V.Blocks.seen c.resize_at_inode.new.v) (g.V.Volume.kept c.resize_at_inode.new.v) c.args.i.0 (resized (file_bytes c.args.shape.now f c.args.i.0) c.args.len))) c.look_inode.ensures.looks.looks.words c.resize_at_inode.ensures.ok
+returns-clause-ok g c = subst (λ f. OnOk c.resize_at_inode.result (SetsBoth c.args.shape.now f (g.V.Blocks.seen c.resize_at_inode.new.v) (g.V.Volume.kept c.resize_at_inode.new.v) c.args.i.0 (resized (file_bytes c.args.shape.now f c.args.i.0) c.args.len))) c.look_inode.ensures.read.looks.looks.words c.resize_at_inode.ensures.ok
 
 pub returns-clause-space : goal.returns-clause-space
-returns-clause-space g c = subst (λ f. OnOk c.resize_at_inode.result (HasSpace c.args.shape.now f (length (file_bytes c.args.shape.now f c.args.i.0)) c.args.len)) c.look_inode.ensures.looks.looks.words c.resize_at_inode.ensures.space
+returns-clause-space g c = subst (λ f. OnOk c.resize_at_inode.result (HasSpace c.args.shape.now f (length (file_bytes c.args.shape.now f c.args.i.0)) c.args.len)) c.look_inode.ensures.read.looks.looks.words c.resize_at_inode.ensures.space
 
 pub returns-clause-no_space : goal.returns-clause-no_space
-returns-clause-no_space g c = λ is. subst (λ f. (c.args.len ≤ largest_size) × (length (free_blocks c.args.shape.now f) < wanted_blocks (length (file_bytes c.args.shape.now f c.args.i.0)) c.args.len)) c.look_inode.ensures.looks.looks.words (c.resize_at_inode.ensures.no_space is)
+returns-clause-no_space g c = λ is. subst (λ f. (c.args.len ≤ largest_size) × (length (free_blocks c.args.shape.now f) < wanted_blocks (length (file_bytes c.args.shape.now f c.args.i.0)) c.args.len)) c.look_inode.ensures.read.looks.looks.words (c.resize_at_inode.ensures.no_space is)
 
 pub returns-clause-refused : goal.returns-clause-refused
 returns-clause-refused g c =
@@ -142,20 +141,23 @@ returns-clause-refused g c =
     let k = g.V.Volume.kept c.args.v.now in
     let z = g.V.Blocks.seen c.look_inode.new.v in
     let l = g.V.Volume.kept c.look_inode.new.v in
-    let looked : LeavesInUse (volume_layout shape x.words) x k z l = leaves_looked shape _ _ _ _ x z k l c.requires.ready c.look_inode.ensures.looks (g.met.V.Volume.passes_keeps _ _ c.look_inode.ensures.passes) in
+    let looked : LeavesInUse (volume_layout shape x.words) x k z l = leaves_looked shape _ _ _ _ x z k l c.requires.ready c.look_inode.ensures.read.looks (g.met.V.Volume.passes_keeps _ _ c.look_inode.ensures.read.passed) in
     λ is. leaves_trans shape x k z l (g.V.Blocks.seen c.resize_at_inode.new.v) (g.V.Volume.kept c.resize_at_inode.new.v) c.requires.ready looked (c.resize_at_inode.ensures.refused is)
 
 pub returns-clause-fault : goal.returns-clause-fault
-returns-clause-fault g c = λ is. subst (λ f. SetsBoth c.args.shape.now f (g.V.Blocks.seen c.resize_at_inode.new.v) (g.V.Volume.kept c.resize_at_inode.new.v) c.args.i.0 (file_bytes c.args.shape.now f c.args.i.0)) c.look_inode.ensures.looks.looks.words (c.resize_at_inode.ensures.fault is)
+returns-clause-fault g c = λ is. subst (λ f. SetsBoth c.args.shape.now f (g.V.Blocks.seen c.resize_at_inode.new.v) (g.V.Volume.kept c.resize_at_inode.new.v) c.args.i.0 (file_bytes c.args.shape.now f c.args.i.0)) c.look_inode.ensures.read.looks.looks.words (c.resize_at_inode.ensures.fault is)
 
 pub returns-clause-stopped : goal.returns-clause-stopped
-returns-clause-stopped g c = λ is. subst (λ f. StopsAs c.args.shape.now f (g.V.Blocks.seen c.resize_at_inode.new.v) (g.V.Volume.kept c.resize_at_inode.new.v) c.args.i.0 (ResizeStops c.args.shape.now f c.args.i.0 c.args.len)) c.look_inode.ensures.looks.looks.words (c.resize_at_inode.ensures.stopped is)
+returns-clause-stopped g c = λ is. subst (λ f. StopsAs c.args.shape.now f (g.V.Blocks.seen c.resize_at_inode.new.v) (g.V.Volume.kept c.resize_at_inode.new.v) c.args.i.0 (ResizeStops c.args.shape.now f c.args.i.0 c.args.len)) c.look_inode.ensures.read.looks.looks.words (c.resize_at_inode.ensures.stopped is)
 
 pub returns-clause-forgets : goal.returns-clause-forgets
-returns-clause-forgets g c = subst (λ f. OnOk c.resize_at_inode.result (Forgets (volume_layout c.args.shape.now f) (volume_layout c.args.shape.now (g.V.Blocks.seen c.resize_at_inode.new.v).words) (g.V.Blocks.seen c.resize_at_inode.new.v))) c.look_inode.ensures.looks.looks.words c.resize_at_inode.ensures.forgets
+returns-clause-forgets g c = subst (λ f. OnOk c.resize_at_inode.result (Forgets (volume_layout c.args.shape.now f) (volume_layout c.args.shape.now (g.V.Blocks.seen c.resize_at_inode.new.v).words) (g.V.Blocks.seen c.resize_at_inode.new.v))) c.look_inode.ensures.read.looks.looks.words c.resize_at_inode.ensures.forgets
 
 pub returns-clause-goes : goal.returns-clause-goes
-returns-clause-goes g c = (g.met.V.Volume.passes_keeps _ _ c.look_inode.ensures.passes).goes then c.resize_at_inode.ensures.goes
+returns-clause-goes g c = (g.met.V.Volume.passes_keeps _ _ c.look_inode.ensures.read.passed).goes then c.resize_at_inode.ensures.goes
 
 pub returns-clause-ends : goal.returns-clause-ends
-returns-clause-ends g c = ends_by_after _ _ _ _ _ c.look_inode.ensures.ends.later c.in_ok-inode.ensures.ends.cause c.resize_at_inode.ensures.ends
+returns-clause-ends g c = ends_by_after _ _ _ _ _ (vol_ends _ _ _ c.look_inode.ensures.read.ends).later (vol_ends _ _ _ c.in_ok-inode.ensures.read.ends).cause c.resize_at_inode.ensures.ends
+
+pub look_inode-requires-clause-can : goal.look_inode-requires-clause-can
+look_inode-requires-clause-can g c = record { keeps = (search rules); meets = can_look_up c.args.shape.now _ c.requires.ready.order.has_shape c.requires.ready.order.mapped c.requires.ready.order.named }

@@ -1,3 +1,4 @@
+use Rattle.std.proofs.Common.{rules}
 use Rattle.node_pages.proofs.EndsOn.{if_err, on_ok}
 use Rattle.file_pages.proofs.Common.{◌∙◌, ℕ, sym, subst, arith, inl, Contains, err_from_is_err_and, ◌then◌, numbers, volume_layout, LeavesInUse}
 use Rattle.node_pages.specs.Changes.{planned_node}
@@ -15,9 +16,6 @@ use Rattle.file_pages.proofs.resizing.shrink.Goals as goal
 
 -- ---- the plan, which only looks up
 
-pub plan_shrink-requires-clause-can : goal.plan_shrink-requires-clause-can
-plan_shrink-requires-clause-can g c = can_look_up c.args.shape.now _ c.requires.ready.order.has_shape c.requires.ready.order.mapped c.requires.ready.order.named
-
 pub plan_shrink-requires-clause-inode : goal.plan_shrink-requires-clause-inode
 plan_shrink-requires-clause-inode g c = inl (c.requires.inode, omega (arith, c.requires.file))
 
@@ -30,15 +28,15 @@ returns-in_err-change-clause-leaves g c =
     let call = c.plan_shrink.ensures in
     let shape = c.args.shape.now in
     leaves_err shape _ _ _ _ c.args.i.0 c.args.len c.from_residual.result p.0 p.1 c.requires.ready (g.met.V.Volume.settled _ c.requires.sound) (file_kind shape _ c.args.i.0 c.args.inode.now c.requires.ino c.requires.inode c.requires.file)
-    (leaves_looked shape _ _ _ _ _ _ _ _ c.requires.ready call.looks (g.met.V.Volume.passes_keeps _ _ call.passes))
+    (leaves_looked shape _ _ _ _ _ _ _ _ c.requires.ready call.read.looks (g.met.V.Volume.passes_keeps _ _ call.read.passed))
 
 pub returns-in_err-change-clause-goes : goal.returns-in_err-change-clause-goes
-returns-in_err-change-clause-goes g c = (g.met.V.Volume.passes_keeps _ _ c.plan_shrink.ensures.passes).goes
+returns-in_err-change-clause-goes g c = (g.met.V.Volume.passes_keeps _ _ c.plan_shrink.ensures.read.passed).goes
 
 pub returns-in_err-change-clause-ends : goal.returns-in_err-change-clause-ends
 returns-in_err-change-clause-ends g c =
     let p = err_from_is_err_and c.from_residual.result c.from_residual.ensures.1 in
-    size_err _ _ _ c.from_residual.result _ p.0 c.in_err-change.was p.1 p.2 c.plan_shrink.ensures.ends
+    size_err _ _ _ c.from_residual.result _ p.0 c.in_err-change.was p.1 p.2 c.plan_shrink.ensures.read.ends
 
 -- ---- the update
 
@@ -54,8 +52,8 @@ commit_change-requires-clause-can g c =
     let given = c.args.inode.now in
     let change = c.in_ok-change.change in
     let call = c.plan_shrink.ensures in
-    let leaves : LeavesInUse (volume_layout shape x.words) x k y j = leaves_looked shape _ _ _ _ x y k j c.requires.ready call.looks (g.met.V.Volume.passes_keeps _ _ call.passes) in
-    let prepared : Prepared shape x.words y j i (planned_node x.words i given len change) change = shrink_prepared shape x k y j i given len change c.requires.ino c.requires.ready (g.met.V.Volume.settled _ call.sound) leaves (inl (c.requires.inode, omega (arith, c.requires.file))) (sym c.requires.inode.kind ∙ c.requires.file) c.requires.file c.requires.inode.size c.requires.less c.in_ok-change.ensures.ok in
+    let leaves : LeavesInUse (volume_layout shape x.words) x k y j = leaves_looked shape _ _ _ _ x y k j c.requires.ready call.read.looks (g.met.V.Volume.passes_keeps _ _ call.read.passed) in
+    let prepared : Prepared shape x.words y j i (planned_node x.words i given len change) change = shrink_prepared shape x k y j i given len change c.requires.ino c.requires.ready (g.met.V.Volume.settled _ call.read.keeps) leaves (inl (c.requires.inode, omega (arith, c.requires.file))) (sym c.requires.inode.kind ∙ c.requires.file) c.requires.file c.requires.inode.size c.requires.less c.in_ok-change.ensures.ok in
     prepared_can shape x.words y j i (planned_node x.words i given len change) change prepared
 
 pub returns-in_err-commit_change-clause-leaves : goal.returns-in_err-commit_change-clause-leaves
@@ -71,21 +69,21 @@ returns-in_err-commit_change-clause-leaves g c =
     let given = c.args.inode.now in
     let change = c.in_ok-change.change in
     let call = c.plan_shrink.ensures in
-    let leaves : LeavesInUse (volume_layout shape x.words) x k y j = leaves_looked shape _ _ _ _ x y k j c.requires.ready call.looks (g.met.V.Volume.passes_keeps _ _ call.passes) in
+    let leaves : LeavesInUse (volume_layout shape x.words) x k y j = leaves_looked shape _ _ _ _ x y k j c.requires.ready call.read.looks (g.met.V.Volume.passes_keeps _ _ call.read.passed) in
     let m = planned_node x.words i given len change in
-    let prepared : Prepared shape x.words y j i m change = shrink_prepared shape x k y j i given len change c.requires.ino c.requires.ready (g.met.V.Volume.settled _ call.sound) leaves (inl (c.requires.inode, omega (arith, c.requires.file))) (sym c.requires.inode.kind ∙ c.requires.file) c.requires.file c.requires.inode.size c.requires.less c.in_ok-change.ensures.ok in
+    let prepared : Prepared shape x.words y j i m change = shrink_prepared shape x k y j i given len change c.requires.ino c.requires.ready (g.met.V.Volume.settled _ call.read.keeps) leaves (inl (c.requires.inode, omega (arith, c.requires.file))) (sym c.requires.inode.kind ∙ c.requires.file) c.requires.file c.requires.inode.size c.requires.less c.in_ok-change.ensures.ok in
     made_err shape x k y m _ _ i len c.commit_change.result _ c.from_residual-in_err-commit_change.result p.0 c.in_err-commit_change.was p.1 p.2
-    (old_bytes shape x.words y.words i c.requires.ino call.looks.looks.words)
-    (new_bytes shape x.words y.words i given len change c.requires.ino call.looks.looks.words c.requires.inode c.requires.file c.requires.less)
+    (old_bytes shape x.words y.words i c.requires.ino call.read.looks.looks.words)
+    (new_bytes shape x.words y.words i given len change c.requires.ino call.read.looks.looks.words c.requires.inode c.requires.file c.requires.less)
     (c.commit_change.ensures.leaves x.words m prepared)
 
 pub returns-in_err-commit_change-clause-goes : goal.returns-in_err-commit_change-clause-goes
-returns-in_err-commit_change-clause-goes g c = (g.met.V.Volume.passes_keeps _ _ c.plan_shrink.ensures.passes).goes then c.commit_change.ensures.goes
+returns-in_err-commit_change-clause-goes g c = (g.met.V.Volume.passes_keeps _ _ c.plan_shrink.ensures.read.passed).goes then c.commit_change.ensures.goes
 
 pub returns-in_err-commit_change-clause-ends : goal.returns-in_err-commit_change-clause-ends
 returns-in_err-commit_change-clause-ends g c =
     let p = err_from_is_err_and c.from_residual-in_err-commit_change.result c.from_residual-in_err-commit_change.ensures.1 in
-    size_then _ _ _ c.plan_shrink.result _ c.from_residual-in_err-commit_change.result c.in_ok-change.was c.plan_shrink.ensures.ends (size_err _ _ _ c.from_residual-in_err-commit_change.result _ p.0 c.in_err-commit_change.was p.1 p.2 c.commit_change.ensures.ends)
+    size_then _ _ _ c.plan_shrink.result _ c.from_residual-in_err-commit_change.result c.in_ok-change.was c.plan_shrink.ensures.read.ends (size_err _ _ _ c.from_residual-in_err-commit_change.result _ p.0 c.in_err-commit_change.was p.1 p.2 c.commit_change.ensures.ends)
 
 -- ---- the freed blocks dropped
 
@@ -103,9 +101,9 @@ forget_all-requires-clause-places g c =
     let given = c.args.inode.now in
     let change = c.in_ok-change.change in
     let call = c.plan_shrink.ensures in
-    let leaves : LeavesInUse (volume_layout shape x.words) x k y j = leaves_looked shape _ _ _ _ x y k j c.requires.ready call.looks (g.met.V.Volume.passes_keeps _ _ call.passes) in
+    let leaves : LeavesInUse (volume_layout shape x.words) x k y j = leaves_looked shape _ _ _ _ x y k j c.requires.ready call.read.looks (g.met.V.Volume.passes_keeps _ _ call.read.passed) in
     let m = planned_node x.words i given len change in
-    let prepared : Prepared shape x.words y j i m change = shrink_prepared shape x k y j i given len change c.requires.ino c.requires.ready (g.met.V.Volume.settled _ call.sound) leaves (inl (c.requires.inode, omega (arith, c.requires.file))) (sym c.requires.inode.kind ∙ c.requires.file) c.requires.file c.requires.inode.size c.requires.less c.in_ok-change.ensures.ok in
+    let prepared : Prepared shape x.words y j i m change = shrink_prepared shape x k y j i given len change c.requires.ino c.requires.ready (g.met.V.Volume.settled _ call.read.keeps) leaves (inl (c.requires.inode, omega (arith, c.requires.file))) (sym c.requires.inode.kind ∙ c.requires.file) c.requires.file c.requires.inode.size c.requires.less c.in_ok-change.ensures.ok in
     let done = made_ok shape x.words y m z l i c.commit_change.result _ c.in_ok-commit_change.was (c.commit_change.ensures.leaves x.words m prepared) in
     λ t few. freed_place shape change _ c.as_slice.result.now t z.count c.as_slice.ensures (prepared_can shape x.words y j i m change prepared) done.1.order.has_shape.count few
 
@@ -123,9 +121,9 @@ forget_all-requires-clause-idle g c =
     let given = c.args.inode.now in
     let change = c.in_ok-change.change in
     let call = c.plan_shrink.ensures in
-    let leaves : LeavesInUse (volume_layout shape x.words) x k y j = leaves_looked shape _ _ _ _ x y k j c.requires.ready call.looks (g.met.V.Volume.passes_keeps _ _ call.passes) in
+    let leaves : LeavesInUse (volume_layout shape x.words) x k y j = leaves_looked shape _ _ _ _ x y k j c.requires.ready call.read.looks (g.met.V.Volume.passes_keeps _ _ call.read.passed) in
     let m = planned_node x.words i given len change in
-    let prepared : Prepared shape x.words y j i m change = shrink_prepared shape x k y j i given len change c.requires.ino c.requires.ready (g.met.V.Volume.settled _ call.sound) leaves (inl (c.requires.inode, omega (arith, c.requires.file))) (sym c.requires.inode.kind ∙ c.requires.file) c.requires.file c.requires.inode.size c.requires.less c.in_ok-change.ensures.ok in
+    let prepared : Prepared shape x.words y j i m change = shrink_prepared shape x k y j i given len change c.requires.ino c.requires.ready (g.met.V.Volume.settled _ call.read.keeps) leaves (inl (c.requires.inode, omega (arith, c.requires.file))) (sym c.requires.inode.kind ∙ c.requires.file) c.requires.file c.requires.inode.size c.requires.less c.in_ok-change.ensures.ok in
     let done = made_ok shape x.words y m z l i c.commit_change.result _ c.in_ok-commit_change.was (c.commit_change.ensures.leaves x.words m prepared) in
     done.1.idle
 
@@ -143,14 +141,14 @@ returns-clause-leaves g c =
     let given = c.args.inode.now in
     let change = c.in_ok-change.change in
     let call = c.plan_shrink.ensures in
-    let leaves : LeavesInUse (volume_layout shape x.words) x k y j = leaves_looked shape _ _ _ _ x y k j c.requires.ready call.looks (g.met.V.Volume.passes_keeps _ _ call.passes) in
+    let leaves : LeavesInUse (volume_layout shape x.words) x k y j = leaves_looked shape _ _ _ _ x y k j c.requires.ready call.read.looks (g.met.V.Volume.passes_keeps _ _ call.read.passed) in
     let m = planned_node x.words i given len change in
-    let prepared : Prepared shape x.words y j i m change = shrink_prepared shape x k y j i given len change c.requires.ino c.requires.ready (g.met.V.Volume.settled _ call.sound) leaves (inl (c.requires.inode, omega (arith, c.requires.file))) (sym c.requires.inode.kind ∙ c.requires.file) c.requires.file c.requires.inode.size c.requires.less c.in_ok-change.ensures.ok in
+    let prepared : Prepared shape x.words y j i m change = shrink_prepared shape x k y j i given len change c.requires.ino c.requires.ready (g.met.V.Volume.settled _ call.read.keeps) leaves (inl (c.requires.inode, omega (arith, c.requires.file))) (sym c.requires.inode.kind ∙ c.requires.file) c.requires.file c.requires.inode.size c.requires.less c.in_ok-change.ensures.ok in
     let done = made_ok shape x.words y m z l i c.commit_change.result _ c.in_ok-commit_change.was (c.commit_change.ensures.leaves x.words m prepared) in
     let freed = numbers c.as_slice.result.now in
-    let free = λ (b : ℕ) (on : Contains freed b). freed_free shape x.words y.words z.words i m change b call.looks.looks.words (ready_left shape x k y j c.requires.ready leaves).order.mapped (c.in_ok-commit_change.ensures.change x.words m prepared) c.in_ok-change.ensures.ok.turns (subst (λ bs. Contains (numbers bs) b) c.as_slice.ensures on) in
+    let free = λ (b : ℕ) (on : Contains freed b). freed_free shape x.words y.words z.words i m change b call.read.looks.looks.words (ready_left shape x k y j c.requires.ready leaves).order.mapped (c.in_ok-commit_change.ensures.change x.words m prepared) c.in_ok-change.ensures.ok.turns (subst (λ bs. Contains (numbers bs) b) c.as_slice.ensures on) in
     let dropped = leaves_beside shape (Contains freed) z l (g.V.Blocks.seen c.forget_all.new.v) (g.V.Volume.kept c.forget_all.new.v) done.1 free c.forget_all.ensures.beside c.forget_all.ensures.idle in
-    let bytes = new_bytes shape x.words y.words i given len change c.requires.ino call.looks.looks.words c.requires.inode c.requires.file c.requires.less in
+    let bytes = new_bytes shape x.words y.words i given len change c.requires.ino call.read.looks.looks.words c.requires.inode c.requires.file c.requires.less in
     let settled = g.met.V.Volume.settled _ c.commit_change.ensures.sound in
     dropped_all shape x k z l _ _ i len _ c.forget_all.result c.forget_all.ensures.stops bytes done.0 done.1 settled dropped
 
@@ -168,21 +166,21 @@ returns-clause-forgets g c =
     let given = c.args.inode.now in
     let change = c.in_ok-change.change in
     let call = c.plan_shrink.ensures in
-    let leaves : LeavesInUse (volume_layout shape x.words) x k y j = leaves_looked shape _ _ _ _ x y k j c.requires.ready call.looks (g.met.V.Volume.passes_keeps _ _ call.passes) in
+    let leaves : LeavesInUse (volume_layout shape x.words) x k y j = leaves_looked shape _ _ _ _ x y k j c.requires.ready call.read.looks (g.met.V.Volume.passes_keeps _ _ call.read.passed) in
     let m = planned_node x.words i given len change in
-    let prepared : Prepared shape x.words y j i m change = shrink_prepared shape x k y j i given len change c.requires.ino c.requires.ready (g.met.V.Volume.settled _ call.sound) leaves (inl (c.requires.inode, omega (arith, c.requires.file))) (sym c.requires.inode.kind ∙ c.requires.file) c.requires.file c.requires.inode.size c.requires.less c.in_ok-change.ensures.ok in
+    let prepared : Prepared shape x.words y j i m change = shrink_prepared shape x k y j i given len change c.requires.ino c.requires.ready (g.met.V.Volume.settled _ call.read.keeps) leaves (inl (c.requires.inode, omega (arith, c.requires.file))) (sym c.requires.inode.kind ∙ c.requires.file) c.requires.file c.requires.inode.size c.requires.less c.in_ok-change.ensures.ok in
     let done = made_ok shape x.words y m z l i c.commit_change.result _ c.in_ok-commit_change.was (c.commit_change.ensures.leaves x.words m prepared) in
     let freed = numbers c.as_slice.result.now in
-    let free = λ (b : ℕ) (on : Contains freed b). freed_free shape x.words y.words z.words i m change b call.looks.looks.words (ready_left shape x k y j c.requires.ready leaves).order.mapped (c.in_ok-commit_change.ensures.change x.words m prepared) c.in_ok-change.ensures.ok.turns (subst (λ bs. Contains (numbers bs) b) c.as_slice.ensures on) in
+    let free = λ (b : ℕ) (on : Contains freed b). freed_free shape x.words y.words z.words i m change b call.read.looks.looks.words (ready_left shape x k y j c.requires.ready leaves).order.mapped (c.in_ok-commit_change.ensures.change x.words m prepared) c.in_ok-change.ensures.ok.turns (subst (λ bs. Contains (numbers bs) b) c.as_slice.ensures on) in
     let dropped = leaves_beside shape (Contains freed) z l (g.V.Blocks.seen c.forget_all.new.v) (g.V.Volume.kept c.forget_all.new.v) done.1 free c.forget_all.ensures.beside c.forget_all.ensures.idle in
     let w = g.V.Blocks.seen c.forget_all.new.v in
     on_ok c.forget_all.result _ _ (λ gone. prepared_forgets shape x.words y j i m change z.words w prepared (c.in_ok-commit_change.ensures.change x.words m prepared) (layout_left shape z l w _ done.1 dropped) (subst (λ bs. Uncached (Contains (numbers bs)) w) c.as_slice.ensures gone)) c.forget_all.ensures.forgotten
 
 pub returns-clause-goes : goal.returns-clause-goes
-returns-clause-goes g c = (g.met.V.Volume.passes_keeps _ _ c.plan_shrink.ensures.passes).goes then c.commit_change.ensures.goes then c.forget_all.ensures.goes
+returns-clause-goes g c = (g.met.V.Volume.passes_keeps _ _ c.plan_shrink.ensures.read.passed).goes then c.commit_change.ensures.goes then c.forget_all.ensures.goes
 
 pub returns-clause-ends : goal.returns-clause-ends
-returns-clause-ends g c = size_then _ _ _ c.plan_shrink.result _ _ c.in_ok-change.was c.plan_shrink.ensures.ends (size_then _ _ _ c.commit_change.result _ _ c.in_ok-commit_change.was c.commit_change.ensures.ends (size_halts _ _ c.forget_all.result c.forget_all.ensures.stops c.forget_all.ensures.ends))
+returns-clause-ends g c = size_then _ _ _ c.plan_shrink.result _ _ c.in_ok-change.was c.plan_shrink.ensures.read.ends (size_then _ _ _ c.commit_change.result _ _ c.in_ok-commit_change.was c.commit_change.ensures.ends (size_halts _ _ c.forget_all.result c.forget_all.ensures.stops c.forget_all.ensures.ends))
 
 pub returns-in_err-change-clause-other : goal.returns-in_err-change-clause-other
 returns-in_err-change-clause-other g c =
@@ -210,7 +208,7 @@ commit_change-requires-clause-shape g c =
     let k = g.V.Volume.kept c.args.v.now in
     let y = g.V.Blocks.seen c.plan_shrink.new.v in
     let j = g.V.Volume.kept c.plan_shrink.new.v in
-    let leaves : LeavesInUse (volume_layout shape x.words) x k y j = leaves_looked shape _ _ _ _ x y k j c.requires.ready c.plan_shrink.ensures.looks (g.met.V.Volume.passes_keeps _ _ c.plan_shrink.ensures.passes) in
+    let leaves : LeavesInUse (volume_layout shape x.words) x k y j = leaves_looked shape _ _ _ _ x y k j c.requires.ready c.plan_shrink.ensures.read.looks (g.met.V.Volume.passes_keeps _ _ c.plan_shrink.ensures.read.passed) in
     leaves.has_shape
 
 pub commit_change-requires-clause-idle : goal.commit_change-requires-clause-idle
@@ -220,5 +218,8 @@ commit_change-requires-clause-idle g c =
     let k = g.V.Volume.kept c.args.v.now in
     let y = g.V.Blocks.seen c.plan_shrink.new.v in
     let j = g.V.Volume.kept c.plan_shrink.new.v in
-    let leaves : LeavesInUse (volume_layout shape x.words) x k y j = leaves_looked shape _ _ _ _ x y k j c.requires.ready c.plan_shrink.ensures.looks (g.met.V.Volume.passes_keeps _ _ c.plan_shrink.ensures.passes) in
+    let leaves : LeavesInUse (volume_layout shape x.words) x k y j = leaves_looked shape _ _ _ _ x y k j c.requires.ready c.plan_shrink.ensures.read.looks (g.met.V.Volume.passes_keeps _ _ c.plan_shrink.ensures.read.passed) in
     leaves.idle
+
+pub plan_shrink-requires-clause-can : goal.plan_shrink-requires-clause-can
+plan_shrink-requires-clause-can g c = record { keeps = (search rules); meets = can_look_up c.args.shape.now _ c.requires.ready.order.has_shape c.requires.ready.order.mapped c.requires.ready.order.named }
