@@ -1,5 +1,5 @@
 -- Inodes that are used, and those that are free.
-use Rattle.request_ends.proofs.Common.{◌≡◌, ◌≢◌, ℕ, ◌<◌, ◌⊎◌, false, ap, ◌∙◌, arith, inl, inr, get, cases_eq, VolumeShape, BlockWords, IsIno, inode_kind, State, held_of, reads_dir, reads_file, reads_region, ReadsAs, IsMapped}
+use Rattle.request_ends.proofs.Common.{◌≡◌, ◌≢◌, ℕ, ◌<◌, ◌⊎◌, false, refl, ap, ◌∙◌, arith, inl, inr, get, cases_eq, VolumeShape, BlockWords, IsIno, inode_kind, State, held_of, reads_dir, reads_file, reads_region, ReadsAs, IsMapped}
 use Rattle.std.specs.Prelude.{is_none}
 use Rattle.region_view.proofs.UsedInodes.{kind_held}
 use Rattle.rio_model.proofs.PlacedRules.{root_ino}

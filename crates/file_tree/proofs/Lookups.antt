@@ -1,4 +1,6 @@
 -- Look-ups over blocks alone: what holds after them, of calls one after the other, and what that says of a volume.
+use Rattle.request_ends.specs.Reading.{ReadsSome}
+use Rattle.directories.specs.Reading.{CanReadRows}
 use Rattle.request_ends.proofs.Common.{◌≡◌, ◌<◌, ℕ, None, Err, Result, VolFail, refl, subst, can_look_up, held_of, inode_block, Below, BlockWords, Health, Kept, Looks, Passes, Seen, VolumeShape, HasShape, State, AllNamed, ReadsAs, volume_layout}
 use Rattle.rio_base.specs.Blocks.{Caches}
 use Rattle.node_pages.proofs.LookingUpRules.{looked_inode, named_on}
@@ -20,6 +22,10 @@ reads_then shape f g same h = (h.0, subst (λ w. ReadsAs shape w h.0) same h.1)
 -- a volume that was looked at serves as before
 pub can_looked : (shape : VolumeShape) (s t : Health) (o n : Below) (x y : Seen) (k j : Kept) → CanServe shape x k → Looks x y → HasShape shape y → AllNamed (volume_layout shape x.words) y → Passes s o k t n j → CanServe shape y j
 can_looked shape s t o n x y k j can looks has_shape named passes = can_again shape x k y j can (leaves_read shape s t o n x y k j can.ready looks has_shape named passes) looks.words
+
+-- where the blocks read as some state, any directory can be read
+pub rows_read : {shape : VolumeShape} {x : Seen} → ReadsSome shape x → CanReadRows shape x
+rows_read h = record { has_shape = h.has_shape; mapped = h.reads.mapped; named = h.named; entries = h.reads.entries }
 
 -- an inode was read
 pub inode_looked : (shape : VolumeShape) (x y : Seen) (i : ℕ) (s : State) → HasShape shape x → AllNamed (volume_layout shape x.words) x → ReadsAs shape x.words s → 0 < (held_of shape x.words i).kind → Looks x y → Caches x y (inode_block i) None → HasShape shape y × AllNamed (volume_layout shape x.words) y

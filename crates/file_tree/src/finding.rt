@@ -1,20 +1,14 @@
 //! Names of directories looked up: in memory, where they are held there.
 
-ghost use Rattle.std.specs.Prelude.{◌≡◌, true, IfOk, IfSome, IsErrOf};
+ghost use Rattle.std.specs.Prelude.{◌≡◌, true, IfOk, IfSome};
 ghost use Rattle.std.specs.FinMap.{empty};
-ghost use Rattle.rio_base.specs.Blocks.{EndsBy, Looks};
-ghost use Rattle.rio_base.specs.Shapes.{HasShape};
-ghost use Rattle.rio_base.specs.Volume.{Goes};
+ghost use Rattle.request_ends.specs.Reading.{ReadFor, ReadsSome};
+ghost use Rattle.rio_base.specs.Frames.{CanRead};
 ghost use Rattle.rio_base.specs.NodeKinds.{dir_kind};
 ghost use Rattle.rio_model.specs.Held.{held_of};
-ghost use Rattle.rio_model.specs.Placed.{volume_layout};
-ghost use Rattle.rio_model.specs.VolumeReads.{ReadsAs};
-ghost use Rattle.rio_model.specs.VolumeReady.{AllNamed, LeavesInUse};
-ghost use Rattle.rio_model.specs.declared.state.State.{State};
 ghost use Rattle.inode_table.specs.Inodes.{IsInode};
 ghost use Rattle.directories.specs.Rows.{Finds, HoldsRows, IsEntry};
-ghost use Rattle.request_ends.specs.Ends.{CanServe};
-ghost use Rattle.request_ends.specs.Failures.{Faulted, Unrefused};
+ghost use Rattle.request_ends.specs.Failures.{Unrefused};
 ghost use Rattle.file_tree.specs.Memos.{InStep};
 
 use crate::memo::Memo;
@@ -23,7 +17,7 @@ use directories::{find_at_inode, hold_names, row_at};
 use inode_table::Inode;
 use name_index::{DirNames, Lookup};
 use request_ends::FileFail;
-use rio_base::{Blocks, Ino, ReadFail, Volume, VolumeShape};
+use rio_base::{Blocks, Ino, ReadFail, VolumeShape};
 
 /// The bytes of the largest directory that is looked through all the same: one page.
 const SMALL_BYTES: u64 = 4096;
@@ -36,20 +30,12 @@ fn scan<V: Blocks>(
     inode: &Inode,
     name: &[u8],
 ) -> Result<Option<(Ino, u32)>, FileFail>
-    requires sound { V.sound v.old }
-    requires shape { HasShape shape.now (V.seen v.old) }
-    requires named { AllNamed (volume_layout shape.now (V.seen v.old).words) (V.seen v.old) }
-    requires reads { (s : State) × ReadsAs shape.now (V.seen v.old).words s }
+    requires can { CanRead V.seen V.sound (ReadsSome shape.now) v.old }
     requires dir { (held_of shape.now (V.seen v.old).words dir.0).kind ≡ dir_kind }
     requires inode { IsInode (V.seen v.old).words dir.0 inode.now }
     ensures found { IfOk result (Finds (held_of shape.now (V.seen v.old).words dir.0) name.now) }
     ensures other { Unrefused result }
-    ensures looks { Looks (V.seen v.old) (V.seen v.new) }
-    ensures shape { HasShape shape.now (V.seen v.new) }
-    ensures named { AllNamed (volume_layout shape.now (V.seen v.old).words) (V.seen v.new) }
-    ensures passes { V.passes v.old v.new }
-    ensures ends { EndsBy (V.health v.old) (V.health v.new) (Faulted result) (IsErrOf result FileFail.Stopped) }
-    ensures sound { V.sound v.new }
+    ensures read { ReadFor V.seen V.health V.sound V.passes shape.now v.old v.new result }
 {
     let found = find_at_inode(v, shape, dir, inode, name)?;
     Ok(found)
@@ -64,20 +50,12 @@ fn entry_at<V: Blocks>(
     slot: u32,
     name: &[u8],
 ) -> Result<Option<Ino>, FileFail>
-    requires sound { V.sound v.old }
-    requires shape { HasShape shape.now (V.seen v.old) }
-    requires named { AllNamed (volume_layout shape.now (V.seen v.old).words) (V.seen v.old) }
-    requires reads { (s : State) × ReadsAs shape.now (V.seen v.old).words s }
+    requires can { CanRead V.seen V.sound (ReadsSome shape.now) v.old }
     requires dir { (held_of shape.now (V.seen v.old).words dir.0).kind ≡ dir_kind }
     requires inode { IsInode (V.seen v.old).words dir.0 inode.now }
     ensures found { IfOk result (λ found. IfSome found (λ i. IsEntry (held_of shape.now (V.seen v.old).words dir.0) slot name.now i.0)) }
     ensures other { Unrefused result }
-    ensures looks { Looks (V.seen v.old) (V.seen v.new) }
-    ensures shape { HasShape shape.now (V.seen v.new) }
-    ensures named { AllNamed (volume_layout shape.now (V.seen v.old).words) (V.seen v.new) }
-    ensures passes { V.passes v.old v.new }
-    ensures ends { EndsBy (V.health v.old) (V.health v.new) (Faulted result) (IsErrOf result FileFail.Stopped) }
-    ensures sound { V.sound v.new }
+    ensures read { ReadFor V.seen V.health V.sound V.passes shape.now v.old v.new result }
 {
     let found = row_at(v, shape, dir, inode, slot, name)?;
     Ok(found)
@@ -92,20 +70,12 @@ fn row_near<V: Blocks>(
     slot: u32,
     name: &[u8],
 ) -> Result<Option<(Ino, u32)>, FileFail>
-    requires sound { V.sound v.old }
-    requires shape { HasShape shape.now (V.seen v.old) }
-    requires named { AllNamed (volume_layout shape.now (V.seen v.old).words) (V.seen v.old) }
-    requires reads { (s : State) × ReadsAs shape.now (V.seen v.old).words s }
+    requires can { CanRead V.seen V.sound (ReadsSome shape.now) v.old }
     requires dir { (held_of shape.now (V.seen v.old).words dir.0).kind ≡ dir_kind }
     requires inode { IsInode (V.seen v.old).words dir.0 inode.now }
     ensures found { IfOk result (Finds (held_of shape.now (V.seen v.old).words dir.0) name.now) }
     ensures other { Unrefused result }
-    ensures looks { Looks (V.seen v.old) (V.seen v.new) }
-    ensures shape { HasShape shape.now (V.seen v.new) }
-    ensures named { AllNamed (volume_layout shape.now (V.seen v.old).words) (V.seen v.new) }
-    ensures passes { V.passes v.old v.new }
-    ensures ends { EndsBy (V.health v.old) (V.health v.new) (Faulted result) (IsErrOf result FileFail.Stopped) }
-    ensures sound { V.sound v.new }
+    ensures read { ReadFor V.seen V.health V.sound V.passes shape.now v.old v.new result }
 {
     if let Some(i) = entry_at(v, shape, dir, inode, slot, name)? {
         return Ok(Some((i, slot)));
@@ -121,21 +91,13 @@ fn put_names<V: Blocks>(
     inode: &Inode,
     names: &mut DirNames,
 ) -> Result<bool, FileFail>
-    requires sound { V.sound v.old }
-    requires shape { HasShape shape.now (V.seen v.old) }
-    requires named { AllNamed (volume_layout shape.now (V.seen v.old).words) (V.seen v.old) }
-    requires reads { (s : State) × ReadsAs shape.now (V.seen v.old).words s }
+    requires can { CanRead V.seen V.sound (ReadsSome shape.now) v.old }
     requires dir { (held_of shape.now (V.seen v.old).words dir.0).kind ≡ dir_kind }
     requires inode { IsInode (V.seen v.old).words dir.0 inode.now }
     requires blank { names.old ≡ empty }
     ensures all { IfOk result (λ all. all ≡ true → HoldsRows (held_of shape.now (V.seen v.old).words dir.0) names.new) }
     ensures other { Unrefused result }
-    ensures looks { Looks (V.seen v.old) (V.seen v.new) }
-    ensures shape { HasShape shape.now (V.seen v.new) }
-    ensures named { AllNamed (volume_layout shape.now (V.seen v.old).words) (V.seen v.new) }
-    ensures passes { V.passes v.old v.new }
-    ensures ends { EndsBy (V.health v.old) (V.health v.new) (Faulted result) (IsErrOf result FileFail.Stopped) }
-    ensures sound { V.sound v.new }
+    ensures read { ReadFor V.seen V.health V.sound V.passes shape.now v.old v.new result }
 {
     match hold_names(v, shape, dir, inode, names) {
         Ok(()) => Ok(true),
@@ -153,21 +115,13 @@ fn hold_dir<V: Blocks>(
     dir: Ino,
     inode: &Inode,
 ) -> Result<(), FileFail>
-    requires sound { V.sound v.old }
-    requires shape { HasShape shape.now (V.seen v.old) }
-    requires named { AllNamed (volume_layout shape.now (V.seen v.old).words) (V.seen v.old) }
-    requires reads { (s : State) × ReadsAs shape.now (V.seen v.old).words s }
+    requires can { CanRead V.seen V.sound (ReadsSome shape.now) v.old }
     requires in_step { InStep shape.now (V.seen v.old).words memo.old }
     requires dir { (held_of shape.now (V.seen v.old).words dir.0).kind ≡ dir_kind }
     requires inode { IsInode (V.seen v.old).words dir.0 inode.now }
     ensures other { Unrefused result }
     ensures in_step { InStep shape.now (V.seen v.old).words memo.new }
-    ensures looks { Looks (V.seen v.old) (V.seen v.new) }
-    ensures shape { HasShape shape.now (V.seen v.new) }
-    ensures named { AllNamed (volume_layout shape.now (V.seen v.old).words) (V.seen v.new) }
-    ensures passes { V.passes v.old v.new }
-    ensures ends { EndsBy (V.health v.old) (V.health v.new) (Faulted result) (IsErrOf result FileFail.Stopped) }
-    ensures sound { V.sound v.new }
+    ensures read { ReadFor V.seen V.health V.sound V.passes shape.now v.old v.new result }
 {
     if memo.names.has(dir) {
         return Ok(());
@@ -194,22 +148,14 @@ pub fn look_up<V: Blocks>(
     inode: &Inode,
     name: &[u8],
 ) -> Result<Option<(Ino, u32)>, FileFail>
-    requires sound { V.sound v.old }
-    requires shape { HasShape shape.now (V.seen v.old) }
-    requires named { AllNamed (volume_layout shape.now (V.seen v.old).words) (V.seen v.old) }
-    requires reads { (s : State) × ReadsAs shape.now (V.seen v.old).words s }
+    requires can { CanRead V.seen V.sound (ReadsSome shape.now) v.old }
     requires in_step { InStep shape.now (V.seen v.old).words memo.old }
     requires dir { (held_of shape.now (V.seen v.old).words dir.0).kind ≡ dir_kind }
     requires inode { IsInode (V.seen v.old).words dir.0 inode.now }
     ensures found { IfOk result (Finds (held_of shape.now (V.seen v.old).words dir.0) name.now) }
     ensures other { Unrefused result }
     ensures in_step { InStep shape.now (V.seen v.old).words memo.new }
-    ensures looks { Looks (V.seen v.old) (V.seen v.new) }
-    ensures shape { HasShape shape.now (V.seen v.new) }
-    ensures named { AllNamed (volume_layout shape.now (V.seen v.old).words) (V.seen v.new) }
-    ensures passes { V.passes v.old v.new }
-    ensures ends { EndsBy (V.health v.old) (V.health v.new) (Faulted result) (IsErrOf result FileFail.Stopped) }
-    ensures sound { V.sound v.new }
+    ensures read { ReadFor V.seen V.health V.sound V.passes shape.now v.old v.new result }
 {
     if inode.size <= SMALL_BYTES {
         return scan(v, shape, dir, inode, name);
@@ -224,26 +170,20 @@ pub fn look_up<V: Blocks>(
 
 /// What a name of a directory names, and the slot of its row; `None` where it has no such name. The directory's inode is read first,
 /// and then the name is looked for as [`look_up`] does.
-pub fn look_up_in<V: Volume>(
+pub fn look_up_in<V: Blocks>(
     v: &mut V,
     shape: &VolumeShape,
     memo: &mut Memo,
     dir: Ino,
     name: &[u8],
 ) -> Result<Option<(Ino, u32)>, FileFail>
-    requires sound { V.sound v.old }
-    requires can { CanServe shape.now (V.seen v.old) (V.kept v.old) }
+    requires can { CanRead V.seen V.sound (ReadsSome shape.now) v.old }
     requires in_step { InStep shape.now (V.seen v.old).words memo.old }
     requires dir { (held_of shape.now (V.seen v.old).words dir.0).kind ≡ dir_kind }
     ensures found { IfOk result (Finds (held_of shape.now (V.seen v.old).words dir.0) name.now) }
     ensures other { Unrefused result }
     ensures in_step { InStep shape.now (V.seen v.old).words memo.new }
-    ensures leaves { LeavesInUse (volume_layout shape.now (V.seen v.old).words) (V.seen v.old) (V.kept v.old) (V.seen v.new) (V.kept v.new) }
-    ensures words { (V.seen v.new).words ≡ (V.seen v.old).words }
-    ensures can { CanServe shape.now (V.seen v.new) (V.kept v.new) }
-    ensures goes { Goes (V.health v.old) (V.below v.old) (V.health v.new) (V.below v.new) }
-    ensures ends { EndsBy (V.health v.old) (V.health v.new) (Faulted result) (IsErrOf result FileFail.Stopped) }
-    ensures sound { V.sound v.new }
+    ensures read { ReadFor V.seen V.health V.sound V.passes shape.now v.old v.new result }
 {
     let inode = inode_of(v, shape, dir)?;
     look_up(v, shape, memo, dir, &inode, name)
