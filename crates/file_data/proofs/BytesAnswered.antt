@@ -1,7 +1,7 @@
 -- Requests on the bytes of a file at a path: how they end, by how the walk there and the call at its end did.
-use Rattle.request_ends.proofs.Common.{◌≡◌, ℕ, ◌+◌, ◌<◌, ◌≤◌, ◌⊎◌, List, refl, sym, ap, subst, ◌∙◌, inl, inr, Result, Ok, Err, IsErrOf, get, Ino, VolumeShape, free_blocks, BlockWords, Seen, Kept, Answered, State, answered, at_inode, refused, held_of, names_of, walk, volume_layout, largest_size, ReadsAs, LeavesInUse, Ready, wanted_blocks, SizeFail, NoneDone}
+use Rattle.request_ends.proofs.Common.{◌≡◌, ℕ, ◌+◌, ◌<◌, ◌≤◌, ◌⊎◌, List, refl, sym, ap, subst, ◌∙◌, inl, inr, Result, Ok, Err, IsErrOf, get, Ino, VolumeShape, free_blocks, BlockWords, Seen, Kept, Answered, State, answered, at_inode, held_of, names_of, walk, volume_layout, largest_size, ReadsAs, LeavesInUse, Ready, wanted_blocks, SizeFail, NoneDone}
 use Rattle.rio_requests.specs.Parts.{WriteDone}
-use Rattle.rio_requests.specs.Answer.{on_file}
+use Rattle.rio_requests.specs.Answer.{on_file, refused_by}
 use Rattle.std.specs.Prelude.{IfOk, length, take, drop, OnOk}
 use Rattle.rio_requests.specs.declared.reply.Reply.TheVariants.{Bytes}
 use Rattle.rio_model.specs.FileParts.{written, resized}
@@ -29,8 +29,8 @@ fails_file s walked go r e re h = by e (subst (λ (v : Result Ino FileFail). Fil
 
     by : (f : FileFail) → FileComes s walked (Err f) → FailsBy s (at_inode s walked (λ i. on_file s (get s.nodes i) (go i))) f
     by (Refused c) (inl c_is) = ap (λ (w : Result ℕ ℕ). at_inode s w (λ i. on_file s (get s.nodes i) (go i))) c_is
-    by (Refused c) (inr (i, ends, inl (five, dir))) = ap (λ (w : Result ℕ ℕ). at_inode s w (λ n. on_file s (get s.nodes n) (go n))) ends ∙ ap (λ n. on_file s n (go i)) dir ∙ ap (refused s) (sym five)
-    by (Refused c) (inr (i, ends, inr (seven, (r, region)))) = ap (λ (w : Result ℕ ℕ). at_inode s w (λ n. on_file s (get s.nodes n) (go n))) ends ∙ ap (λ n. on_file s n (go i)) region ∙ ap (refused s) (sym seven)
+    by (Refused c) (inr (i, ends, inl (five, dir))) = ap (λ (w : Result ℕ ℕ). at_inode s w (λ n. on_file s (get s.nodes n) (go n))) ends ∙ ap (λ n. on_file s n (go i)) dir ∙ ap (refused_by s) (sym five)
+    by (Refused c) (inr (i, ends, inr (seven, (r, region)))) = ap (λ (w : Result ℕ ℕ). at_inode s w (λ n. on_file s (get s.nodes n) (go n))) ends ∙ ap (λ n. on_file s n (go i)) region ∙ ap (refused_by s) (sym seven)
     by (Fault n) none = none
     by Stopped u = tt
     by Memory u = tt

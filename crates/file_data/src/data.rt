@@ -1,6 +1,8 @@
 //! The bytes of a file at a path: written, read, and their number changed.
 
 ghost use Rattle.std.specs.Prelude.{◌≡◌, IfOk, IsErrOf, OnOk};
+ghost use Rattle.request_ends.specs.Reading.{ReadFor, ReadsSome};
+ghost use Rattle.rio_base.specs.Frames.{CanRead};
 ghost use Rattle.rio_base.specs.Blocks.{EndsBy};
 ghost use Rattle.rio_base.specs.Volume.{Goes};
 ghost use Rattle.rio_base.specs.NodeKinds.{file_kind};
@@ -8,7 +10,6 @@ ghost use Rattle.rio_model.specs.Held.{held_of};
 ghost use Rattle.rio_model.specs.Paths.{IsPath, names_of, walk as walk_of};
 ghost use Rattle.rio_model.specs.Placed.{volume_layout};
 ghost use Rattle.rio_model.specs.VolumeReads.{ReadsAs};
-ghost use Rattle.rio_model.specs.VolumeReady.{LeavesInUse};
 ghost use Rattle.rio_model.specs.declared.state.State.{State};
 ghost use Rattle.rio_requests.specs.Answers.{write as write_of, truncate as truncate_of, read as read_of};
 ghost use Rattle.rio_requests.specs.Parts.{NoneDone, WriteDone};
@@ -22,30 +23,24 @@ ghost use Rattle.file_tree.specs.Walks.{FileComes, ino_in};
 use file_tree::{Memo, inode_of, walk};
 use inode_table::Inode;
 use request_ends::FileFail;
-use rio_base::{DIRECTORY, Ino, Octets, REGION, Volume, VolumeShape};
+use rio_base::{Blocks, DIRECTORY, Ino, Octets, REGION, Volume, VolumeShape};
 use rio_model::Refusal;
 use std::alloc::Global;
 
 /// The file at a path, and its inode.
-fn walk_to_file<V: Volume>(
+fn walk_to_file<V: Blocks>(
     v: &mut V,
     shape: &VolumeShape,
     memo: &mut Memo,
     path: &[u8],
 ) -> Result<(Ino, Inode), FileFail>
-    requires sound { V.sound v.old }
-    requires can { CanServe shape.now (V.seen v.old) (V.kept v.old) }
+    requires can { CanRead V.seen V.sound (ReadsSome shape.now) v.old }
     requires in_step { InStep shape.now (V.seen v.old).words memo.old }
     ensures value { (s : State) → ReadsAs shape.now (V.seen v.old).words s → FileComes s (walk_of s 1 (names_of path.now)) (ino_in result) }
     ensures file { IfOk result (λ at. (held_of shape.now (V.seen v.old).words at.0.0).kind ≡ file_kind) }
     ensures inode { IfOk result (λ at. IsInode (V.seen v.old).words at.0.0 at.1) }
     ensures in_step { InStep shape.now (V.seen v.old).words memo.new }
-    ensures leaves { LeavesInUse (volume_layout shape.now (V.seen v.old).words) (V.seen v.old) (V.kept v.old) (V.seen v.new) (V.kept v.new) }
-    ensures words { (V.seen v.new).words ≡ (V.seen v.old).words }
-    ensures can { CanServe shape.now (V.seen v.new) (V.kept v.new) }
-    ensures goes { Goes (V.health v.old) (V.below v.old) (V.health v.new) (V.below v.new) }
-    ensures ends { EndsBy (V.health v.old) (V.health v.new) (Faulted result) (IsErrOf result FileFail.Stopped) }
-    ensures sound { V.sound v.new }
+    ensures read { ReadFor V.seen V.health V.sound V.passes shape.now v.old v.new result }
 {
     let i = walk(v, shape, memo, path)?;
     let inode = inode_of(v, shape, i)?;
