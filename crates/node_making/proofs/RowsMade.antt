@@ -1,5 +1,6 @@
 -- Requests that make a row: what they answer, by what the look-up of a free name comes to.
 use Rattle.request_ends.proofs.Common.{◌≡◌, ℕ, ◌*◌, ◌<◌, ◌≤◌, true, false, cond, List, [], ◌∷◌, refl, sym, ap, subst, ◌∙◌, arith, inl, inr, Result, Ok, Err, None, Some, nat_lt, get, nat_tests, Ino, Node, Region, State, front_of, last_of, walk_to_dir, largest_size, Answered, at_inode, refused, make_new}
+use Rattle.rio_requests.specs.Answer.{refused_by}
 use Rattle.rio_model.specs.Undo.{region_words}
 use Rattle.rio_model.specs.States.{least_free}
 use Rattle.rio_model.specs.declared.refusal.Refusal.TheVariants.{Exists, TooLarge}
@@ -23,7 +24,7 @@ fails_free s names front name go r e cut last over re h = by e (subst (λ (v : R
 
     by : (v : FileFail) → FreeRow s front name (Err v) → FailsBy s (at_row s names (λ dir. go dir (last_of names) (get s.names (dir, last_of names)))) v
     by (Refused c) (inl no_dir) = ap at (ap (walk_to_dir s) cut ∙ no_dir)
-    by (Refused c) (inr (dir, there, (i, row), three)) = ap at (ap (walk_to_dir s) cut ∙ there) ∙ ap (go dir (last_of names)) (ap (λ n. get s.names (dir, n)) last ∙ row) ∙ over dir (last_of names) i ∙ ap (refused s) (sym three)
+    by (Refused c) (inr (dir, there, (i, row), three)) = ap at (ap (walk_to_dir s) cut ∙ there) ∙ ap (go dir (last_of names)) (ap (λ n. get s.names (dir, n)) last ∙ row) ∙ over dir (last_of names) i ∙ ap (refused_by s) (sym three)
     by (Fault k) none = none
     by Stopped u = tt
     by Memory u = tt

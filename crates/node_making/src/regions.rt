@@ -1,6 +1,8 @@
 //! Regions made, and found by their paths.
 
 ghost use Rattle.std.specs.Prelude.{◌≡◌, ◌<◌, ◌≤◌, ℕ, false, length, slice_index, Some, IfOk, OnOk, IsErrOf};
+ghost use Rattle.request_ends.specs.Reading.{ReadFor, ReadsSome};
+ghost use Rattle.rio_base.specs.Frames.{CanRead};
 ghost use Rattle.rio_base.specs.Blocks.{CanName, Ends, EndsBy};
 ghost use Rattle.rio_base.specs.Layout.{IsIno, inode_kind};
 ghost use Rattle.rio_base.specs.Volume.{CachesStored, Firm, Goes, SameBut, put_run};
@@ -9,7 +11,7 @@ ghost use Rattle.block_alloc.specs.Bitmap.{numbers};
 ghost use Rattle.rio_model.specs.declared.node.Node.TheVariants.{Region};
 ghost use Rattle.rio_model.specs.declared.state.State.{State};
 ghost use Rattle.rio_model.specs.Held.{held_of};
-ghost use Rattle.rio_model.specs.Paths.{IsName, IsPath, names_of};
+ghost use Rattle.rio_model.specs.Paths.{IsName, IsPath};
 ghost use Rattle.rio_model.specs.Placed.{IsFree, volume_layout};
 ghost use Rattle.rio_model.specs.Sizes.{blocks_for};
 ghost use Rattle.rio_model.specs.VolumeReads.{ReadsAs};
@@ -18,13 +20,13 @@ ghost use Rattle.inode_table.specs.Inodes.{IsInode};
 ghost use Rattle.node_pages.specs.Changes.{Apart, Spares, free_beside};
 ghost use Rattle.node_pages.specs.Staging.{Forgets};
 ghost use Rattle.directories.specs.Rows.{HasRow};
-ghost use Rattle.rio_requests.specs.Answers.{make_new as make_new_of, make_region as make_region_of, new_region, region_row};
+ghost use Rattle.rio_requests.specs.Answers.{make_new as make_new_of, make_region as make_region_of, new_region};
 ghost use Rattle.rio_requests.specs.Parts.{NoneDone};
 ghost use Rattle.request_ends.specs.Ends.{CanServe, FileEnds, SaysIno, SaysNumber};
 ghost use Rattle.request_ends.specs.Failures.{Faulted};
 ghost use Rattle.file_tree.specs.Memos.{InStep};
 ghost use Rattle.node_making.specs.NewNodes.{FindsRegion, FitRegion, PlansRegion, SizesRegion, header_name, header_words};
-ghost use Rattle.file_tree.specs.Walks.{FreeRow, ino_in};
+ghost use Rattle.file_tree.specs.Walks.{ino_in};
 
 use crate::new_nodes::{NewNode, make_new};
 use directories::plan_add;
@@ -34,8 +36,8 @@ use node_pages::{SizeFail, plan_size};
 use node_updates::{NodeChange, commit_planned, empty_inode, node_sized};
 use request_ends::FileFail;
 use rio_base::{
-    Block, BlockList, Ino, PAGE_BYTES, PageName, REGION, REGION_MAGIC, RunFail, VolFail, Volume,
-    VolumeShape,
+    Block, BlockList, Blocks, Ino, PAGE_BYTES, PageName, REGION, REGION_MAGIC, RunFail, VolFail,
+    Volume, VolumeShape,
 };
 use rio_model::Refusal;
 use std::alloc::Global;
@@ -210,14 +212,13 @@ pub fn make_region<V: Volume>(
 }
 
 /// The region at a path, and its inode. Never answers want of memory: names that do not fit are not held.
-pub fn region_at<V: Volume>(
+pub fn region_at<V: Blocks>(
     v: &mut V,
     shape: &VolumeShape,
     memo: &mut Memo,
     path: &[u8],
 ) -> Result<(Ino, Inode), FileFail>
-    requires sound { V.sound v.old }
-    requires can { CanServe shape.now (V.seen v.old) (V.kept v.old) }
+    requires can { CanRead V.seen V.sound (ReadsSome shape.now) v.old }
     requires in_step { InStep shape.now (V.seen v.old).words memo.old }
     requires path { IsPath path.now }
     ensures found { (s : State) → ReadsAs shape.now (V.seen v.old).words s → FindsRegion s path.now (ino_in result) }
@@ -225,13 +226,8 @@ pub fn region_at<V: Volume>(
     ensures ino { IfOk result (λ at. IsIno shape.now at.0.0) }
     ensures inode { IfOk result (λ at. IsInode (V.seen v.old).words at.0.0 at.1) }
     ensures in_step { InStep shape.now (V.seen v.old).words memo.new }
-    ensures leaves { LeavesInUse (volume_layout shape.now (V.seen v.old).words) (V.seen v.old) (V.kept v.old) (V.seen v.new) (V.kept v.new) }
-    ensures words { (V.seen v.new).words ≡ (V.seen v.old).words }
-    ensures can { CanServe shape.now (V.seen v.new) (V.kept v.new) }
+    ensures read { ReadFor V.seen V.health V.sound V.passes shape.now v.old v.new result }
     ensures memory { IsErrOf result FileFail.Memory → ⊥ }
-    ensures goes { Goes (V.health v.old) (V.below v.old) (V.health v.new) (V.below v.new) }
-    ensures ends { EndsBy (V.health v.old) (V.health v.new) (Faulted result) (IsErrOf result FileFail.Stopped) }
-    ensures sound { V.sound v.new }
 {
     let i = walk(v, shape, memo, path)?;
     let inode = node_inode(v, shape, i)?;
