@@ -1,3 +1,4 @@
+use Rattle.request_ends.proofs.Reading.{can_read, file_served}
 use Rattle.request_ends.proofs.Failed.{never_ok}
 use Rattle.request_ends.proofs.Common.{◌≡◌, ◌<◌, ◌∙◌, le_refl, refl, sym, ap, subst, err_from_is_err_and, ◌then◌, ends_by_well, answered, last_of, held_of, names_of, volume_layout, ReadsAs, LeavesInUse, IsInode, leaves_refl, NoneDone, Forgets, goes_refl}
 use Rattle.std.specs.Prelude.{OnOk}
@@ -40,15 +41,15 @@ returns-in_err-row-clause-leaves g c =
     let m = g.V.Blocks.seen c.walk_to_row.new.v in
     let l = g.V.Volume.kept c.walk_to_row.new.v in
     let p = err_from_is_err_and c.from_residual.result c.from_residual.ensures.1 in
-    λ s reads. ends_look {T = Unit {0}} SaysDone shape x k m l s (unlink_of s c.args.path.now busy) (NoneDone s) c.from_residual.result _ p.0 p.1 p.2 c.requires.can.ready (g.met.V.Volume.settled _ c.requires.sound) c.walk_to_row.ensures.leaves reads (refl, refl) (fails_unlink s busy names c.walk_to_row.result _ (c.is_root.ensures.not c.if-is_root.false) c.in_err-row.was (c.walk_to_row.ensures.value s reads))
+    λ s reads. ends_look {T = Unit {0}} SaysDone shape x k m l s (unlink_of s c.args.path.now busy) (NoneDone s) c.from_residual.result _ p.0 p.1 p.2 c.requires.can.ready (g.met.V.Volume.settled _ c.requires.sound) (file_served g.met.V.Volume.passes_keeps c.requires.can c.walk_to_row.ensures.read).leaves reads (refl, refl) (fails_unlink s busy names c.walk_to_row.result _ (c.is_root.ensures.not c.if-is_root.false) c.in_err-row.was (c.walk_to_row.ensures.value s reads))
 
 pub returns-in_err-row-clause-ends : goal.returns-in_err-row-clause-ends
 returns-in_err-row-clause-ends g c =
     let p = err_from_is_err_and c.from_residual.result c.from_residual.ensures.1 in
-    ends_on _ _ c.walk_to_row.result c.from_residual.result _ p.0 c.in_err-row.was p.1 p.2 c.walk_to_row.ensures.ends
+    ends_on _ _ c.walk_to_row.result c.from_residual.result _ p.0 c.in_err-row.was p.1 p.2 c.walk_to_row.ensures.read.ends
 
 pub node_inode-requires-clause-used : goal.node_inode-requires-clause-used
-node_inode-requires-clause-used g c = subst (λ f. 0 < (held_of c.args.shape.now f c.in_ok-row.row.ino.0).kind) (sym c.walk_to_row.ensures.words) c.in_ok-row.ensures.used
+node_inode-requires-clause-used g c = subst (λ f. 0 < (held_of c.args.shape.now f c.in_ok-row.row.ino.0).kind) (sym c.walk_to_row.ensures.read.looks.looks.words) c.in_ok-row.ensures.used
 
 pub returns-in_err-inode-clause-leaves : goal.returns-in_err-inode-clause-leaves
 returns-in_err-inode-clause-leaves g c =
@@ -61,17 +62,17 @@ returns-in_err-inode-clause-leaves g c =
     let l = g.V.Volume.kept c.walk_to_row.new.v in
     let n = g.V.Blocks.seen c.node_inode.new.v in
     let q = g.V.Volume.kept c.node_inode.new.v in
-    let leaves : LeavesInUse (volume_layout shape x.words) x k n q = leaves_then shape x k m l n q c.walk_to_row.ensures.leaves c.walk_to_row.ensures.words (leaves_read c.args.shape.now _ _ _ _ _ _ _ _ c.walk_to_row.ensures.can.ready c.node_inode.ensures.looks c.node_inode.ensures.shape c.node_inode.ensures.named (g.met.V.Volume.passes_keeps _ _ c.node_inode.ensures.passes)) in
+    let leaves : LeavesInUse (volume_layout shape x.words) x k n q = leaves_then shape x k m l n q (file_served g.met.V.Volume.passes_keeps c.requires.can c.walk_to_row.ensures.read).leaves c.walk_to_row.ensures.read.looks.looks.words (leaves_read c.args.shape.now _ _ _ _ _ _ _ _ (file_served g.met.V.Volume.passes_keeps c.requires.can c.walk_to_row.ensures.read).can.ready c.node_inode.ensures.read.looks.looks c.node_inode.ensures.read.looks.has_shape c.node_inode.ensures.read.looks.named (g.met.V.Volume.passes_keeps _ _ c.node_inode.ensures.read.passed)) in
     let p = err_from_is_err_and c.from_residual-in_err-inode.result c.from_residual-in_err-inode.ensures.1 in
     λ s reads. ends_look {T = Unit {0}} SaysDone shape x k n q s (unlink_of s c.args.path.now busy) (NoneDone s) c.from_residual-in_err-inode.result _ p.0 p.1 p.2 c.requires.can.ready (g.met.V.Volume.settled _ c.requires.sound) leaves reads (refl, refl) (fails_unrefused s (unlink_of s c.args.path.now busy) c.node_inode.result _ c.in_err-inode.was c.node_inode.ensures.other)
 
 pub returns-in_err-inode-clause-goes : goal.returns-in_err-inode-clause-goes
-returns-in_err-inode-clause-goes g c = c.walk_to_row.ensures.goes then (g.met.V.Volume.passes_keeps _ _ c.node_inode.ensures.passes).goes
+returns-in_err-inode-clause-goes g c = (g.met.V.Volume.passes_keeps _ _ c.walk_to_row.ensures.read.passed).goes then (g.met.V.Volume.passes_keeps _ _ c.node_inode.ensures.read.passed).goes
 
 pub returns-in_err-inode-clause-ends : goal.returns-in_err-inode-clause-ends
 returns-in_err-inode-clause-ends g c =
     let p = err_from_is_err_and c.from_residual-in_err-inode.result c.from_residual-in_err-inode.ensures.1 in
-    after_well _ _ _ _ _ (well _ _ c.walk_to_row.result _ c.in_ok-row.was c.walk_to_row.ensures.ends) (ends_on _ _ c.node_inode.result c.from_residual-in_err-inode.result _ p.0 c.in_err-inode.was p.1 p.2 c.node_inode.ensures.ends)
+    after_well _ _ _ _ _ (well _ _ c.walk_to_row.result _ c.in_ok-row.was c.walk_to_row.ensures.read.ends) (ends_on _ _ c.node_inode.result c.from_residual-in_err-inode.result _ p.0 c.in_err-inode.was p.1 p.2 c.node_inode.ensures.read.ends)
 
 pub returns-then-inode-eq-DIRECTORY-clause-leaves : goal.returns-then-inode-eq-DIRECTORY-clause-leaves
 returns-then-inode-eq-DIRECTORY-clause-leaves g c =
@@ -84,20 +85,20 @@ returns-then-inode-eq-DIRECTORY-clause-leaves g c =
     let l = g.V.Volume.kept c.walk_to_row.new.v in
     let n = g.V.Blocks.seen c.node_inode.new.v in
     let q = g.V.Volume.kept c.node_inode.new.v in
-    let leaves : LeavesInUse (volume_layout shape x.words) x k n q = leaves_then shape x k m l n q c.walk_to_row.ensures.leaves c.walk_to_row.ensures.words (leaves_read c.args.shape.now _ _ _ _ _ _ _ _ c.walk_to_row.ensures.can.ready c.node_inode.ensures.looks c.node_inode.ensures.shape c.node_inode.ensures.named (g.met.V.Volume.passes_keeps _ _ c.node_inode.ensures.passes)) in
+    let leaves : LeavesInUse (volume_layout shape x.words) x k n q = leaves_then shape x k m l n q (file_served g.met.V.Volume.passes_keeps c.requires.can c.walk_to_row.ensures.read).leaves c.walk_to_row.ensures.read.looks.looks.words (leaves_read c.args.shape.now _ _ _ _ _ _ _ _ (file_served g.met.V.Volume.passes_keeps c.requires.can c.walk_to_row.ensures.read).can.ready c.node_inode.ensures.read.looks.looks c.node_inode.ensures.read.looks.has_shape c.node_inode.ensures.read.looks.named (g.met.V.Volume.passes_keeps _ _ c.node_inode.ensures.read.passed)) in
     let row = c.in_ok-row.row in
     let i = row.ino.0 in
     let inode = c.in_ok-inode.inode in
     let used = c.in_ok-row.ensures.used in
-    let is : IsInode x.words i inode = subst (λ f. IsInode f i inode) c.walk_to_row.ensures.words c.in_ok-inode.ensures.value in
+    let is : IsInode x.words i inode = subst (λ f. IsInode f i inode) c.walk_to_row.ensures.read.looks.looks.words c.in_ok-inode.ensures.value in
     let kind : inode.kind ≡ (held_of shape x.words i).kind = inode_kind_held shape x.words i inode used is in
     λ s reads. ends_look {T = Unit {0}} SaysDone shape x k n q s (unlink_of s c.args.path.now busy) (NoneDone s) _ (Refused 5) (Refused 5) refl refl c.requires.can.ready (g.met.V.Volume.settled _ c.requires.sound) leaves reads (refl, refl) (unlinked_at s busy names row (c.is_root.ensures.not c.if-is_root.false) (c.in_ok-row.ensures.value s reads) ∙ unlinked_dir s busy row.dir.0 (last_of names) i (dir_read shape x.words s i reads (sym kind ∙ c.if-inode-eq-DIRECTORY.true)))
 
 pub returns-then-inode-eq-DIRECTORY-clause-goes : goal.returns-then-inode-eq-DIRECTORY-clause-goes
-returns-then-inode-eq-DIRECTORY-clause-goes g c = c.walk_to_row.ensures.goes then (g.met.V.Volume.passes_keeps _ _ c.node_inode.ensures.passes).goes
+returns-then-inode-eq-DIRECTORY-clause-goes g c = (g.met.V.Volume.passes_keeps _ _ c.walk_to_row.ensures.read.passed).goes then (g.met.V.Volume.passes_keeps _ _ c.node_inode.ensures.read.passed).goes
 
 pub returns-then-inode-eq-DIRECTORY-clause-ends : goal.returns-then-inode-eq-DIRECTORY-clause-ends
-returns-then-inode-eq-DIRECTORY-clause-ends g c = ends_refused _ _ 5 (after_well _ _ _ _ _ (well _ _ c.walk_to_row.result _ c.in_ok-row.was c.walk_to_row.ensures.ends) (well _ _ c.node_inode.result _ c.in_ok-inode.was c.node_inode.ensures.ends))
+returns-then-inode-eq-DIRECTORY-clause-ends g c = ends_refused _ _ 5 (after_well _ _ _ _ _ (well _ _ c.walk_to_row.result _ c.in_ok-row.was c.walk_to_row.ensures.read.ends) (well _ _ c.node_inode.result _ c.in_ok-inode.was c.node_inode.ensures.read.ends))
 
 pub returns-then-is_open-clause-leaves : goal.returns-then-is_open-clause-leaves
 returns-then-is_open-clause-leaves g c =
@@ -110,20 +111,20 @@ returns-then-is_open-clause-leaves g c =
     let l = g.V.Volume.kept c.walk_to_row.new.v in
     let n = g.V.Blocks.seen c.node_inode.new.v in
     let q = g.V.Volume.kept c.node_inode.new.v in
-    let leaves : LeavesInUse (volume_layout shape x.words) x k n q = leaves_then shape x k m l n q c.walk_to_row.ensures.leaves c.walk_to_row.ensures.words (leaves_read c.args.shape.now _ _ _ _ _ _ _ _ c.walk_to_row.ensures.can.ready c.node_inode.ensures.looks c.node_inode.ensures.shape c.node_inode.ensures.named (g.met.V.Volume.passes_keeps _ _ c.node_inode.ensures.passes)) in
+    let leaves : LeavesInUse (volume_layout shape x.words) x k n q = leaves_then shape x k m l n q (file_served g.met.V.Volume.passes_keeps c.requires.can c.walk_to_row.ensures.read).leaves c.walk_to_row.ensures.read.looks.looks.words (leaves_read c.args.shape.now _ _ _ _ _ _ _ _ (file_served g.met.V.Volume.passes_keeps c.requires.can c.walk_to_row.ensures.read).can.ready c.node_inode.ensures.read.looks.looks c.node_inode.ensures.read.looks.has_shape c.node_inode.ensures.read.looks.named (g.met.V.Volume.passes_keeps _ _ c.node_inode.ensures.read.passed)) in
     let row = c.in_ok-row.row in
     let i = row.ino.0 in
     let inode = c.in_ok-inode.inode in
     let used = c.in_ok-row.ensures.used in
-    let is : IsInode x.words i inode = subst (λ f. IsInode f i inode) c.walk_to_row.ensures.words c.in_ok-inode.ensures.value in
+    let is : IsInode x.words i inode = subst (λ f. IsInode f i inode) c.walk_to_row.ensures.read.looks.looks.words c.in_ok-inode.ensures.value in
     let kind : inode.kind ≡ (held_of shape x.words i).kind = inode_kind_held shape x.words i inode used is in
     λ s reads. ends_look {T = Unit {0}} SaysDone shape x k n q s (unlink_of s c.args.path.now busy) (NoneDone s) _ (Refused 13) (Refused 13) refl refl c.requires.can.ready (g.met.V.Volume.settled _ c.requires.sound) leaves reads (refl, refl) (unlinked_at s busy names row (c.is_root.ensures.not c.if-is_root.false) (c.in_ok-row.ensures.value s reads) ∙ unlinked_open s busy row.dir.0 (last_of names) i (leaf_read shape x.words s i reads (λ dir. c.if-inode-eq-DIRECTORY.false (kind ∙ dir))) (open_read shape x.words s busy i inode.kind reads used kind ∙ sym c.is_open.ensures ∙ c.if-is_open.true))
 
 pub returns-then-is_open-clause-goes : goal.returns-then-is_open-clause-goes
-returns-then-is_open-clause-goes g c = c.walk_to_row.ensures.goes then (g.met.V.Volume.passes_keeps _ _ c.node_inode.ensures.passes).goes
+returns-then-is_open-clause-goes g c = (g.met.V.Volume.passes_keeps _ _ c.walk_to_row.ensures.read.passed).goes then (g.met.V.Volume.passes_keeps _ _ c.node_inode.ensures.read.passed).goes
 
 pub returns-then-is_open-clause-ends : goal.returns-then-is_open-clause-ends
-returns-then-is_open-clause-ends g c = ends_refused _ _ 13 (after_well _ _ _ _ _ (well _ _ c.walk_to_row.result _ c.in_ok-row.was c.walk_to_row.ensures.ends) (well _ _ c.node_inode.result _ c.in_ok-inode.was c.node_inode.ensures.ends))
+returns-then-is_open-clause-ends g c = ends_refused _ _ 13 (after_well _ _ _ _ _ (well _ _ c.walk_to_row.result _ c.in_ok-row.was c.walk_to_row.ensures.read.ends) (well _ _ c.node_inode.result _ c.in_ok-inode.was c.node_inode.ensures.read.ends))
 
 pub take_row-requires-clause-can : goal.take_row-requires-clause-can
 take_row-requires-clause-can g c =
@@ -136,18 +137,18 @@ take_row-requires-clause-can g c =
     let l = g.V.Volume.kept c.walk_to_row.new.v in
     let n = g.V.Blocks.seen c.node_inode.new.v in
     let q = g.V.Volume.kept c.node_inode.new.v in
-    let leaves : LeavesInUse (volume_layout shape x.words) x k n q = leaves_then shape x k m l n q c.walk_to_row.ensures.leaves c.walk_to_row.ensures.words (leaves_read c.args.shape.now _ _ _ _ _ _ _ _ c.walk_to_row.ensures.can.ready c.node_inode.ensures.looks c.node_inode.ensures.shape c.node_inode.ensures.named (g.met.V.Volume.passes_keeps _ _ c.node_inode.ensures.passes)) in
-    can_again shape x k n q c.requires.can leaves (c.node_inode.ensures.looks.words ∙ c.walk_to_row.ensures.words)
+    let leaves : LeavesInUse (volume_layout shape x.words) x k n q = leaves_then shape x k m l n q (file_served g.met.V.Volume.passes_keeps c.requires.can c.walk_to_row.ensures.read).leaves c.walk_to_row.ensures.read.looks.looks.words (leaves_read c.args.shape.now _ _ _ _ _ _ _ _ (file_served g.met.V.Volume.passes_keeps c.requires.can c.walk_to_row.ensures.read).can.ready c.node_inode.ensures.read.looks.looks c.node_inode.ensures.read.looks.has_shape c.node_inode.ensures.read.looks.named (g.met.V.Volume.passes_keeps _ _ c.node_inode.ensures.read.passed)) in
+    can_again shape x k n q c.requires.can leaves (c.node_inode.ensures.read.looks.looks.words ∙ c.walk_to_row.ensures.read.looks.looks.words)
 
 pub take_row-requires-clause-row : goal.take_row-requires-clause-row
 take_row-requires-clause-row g c =
     let names = names_of c.args.path.now in
     let row = c.in_ok-row.row in
     subst (λ n. IsRow c.args.shape.now (g.V.Blocks.seen c.node_inode.new.v).words n row) c.cut_last.ensures.last
-    (subst (λ f. IsRow c.args.shape.now f (last_of names) row) (sym (c.node_inode.ensures.looks.words ∙ c.walk_to_row.ensures.words)) c.in_ok-row.ensures.row)
+    (subst (λ f. IsRow c.args.shape.now f (last_of names) row) (sym (c.node_inode.ensures.read.looks.looks.words ∙ c.walk_to_row.ensures.read.looks.looks.words)) c.in_ok-row.ensures.row)
 
 pub take_row-requires-clause-used : goal.take_row-requires-clause-used
-take_row-requires-clause-used g c = subst (λ f. 0 < (held_of c.args.shape.now f c.in_ok-row.row.ino.0).kind) (sym (c.node_inode.ensures.looks.words ∙ c.walk_to_row.ensures.words)) c.in_ok-row.ensures.used
+take_row-requires-clause-used g c = subst (λ f. 0 < (held_of c.args.shape.now f c.in_ok-row.row.ino.0).kind) (sym (c.node_inode.ensures.read.looks.looks.words ∙ c.walk_to_row.ensures.read.looks.looks.words)) c.in_ok-row.ensures.used
 
 pub take_row-requires-clause-bare : goal.take_row-requires-clause-bare
 take_row-requires-clause-bare g c =
@@ -162,9 +163,9 @@ take_row-requires-clause-bare g c =
     let i = row.ino.0 in
     let inode = c.in_ok-inode.inode in
     let used = c.in_ok-row.ensures.used in
-    let is : IsInode x.words i inode = subst (λ f. IsInode f i inode) c.walk_to_row.ensures.words c.in_ok-inode.ensures.value in
+    let is : IsInode x.words i inode = subst (λ f. IsInode f i inode) c.walk_to_row.ensures.read.looks.looks.words c.in_ok-inode.ensures.value in
     let kind : inode.kind ≡ (held_of shape x.words i).kind = inode_kind_held shape x.words i inode used is in
-    subst (λ f. (held_of shape f i).kind ≡ 1 → (held_of shape f i).size ≡ 0) (sym (c.node_inode.ensures.looks.words ∙ c.walk_to_row.ensures.words)) (λ dir. absurd (c.if-inode-eq-DIRECTORY.false (kind ∙ dir)))
+    subst (λ f. (held_of shape f i).kind ≡ 1 → (held_of shape f i).size ≡ 0) (sym (c.node_inode.ensures.read.looks.looks.words ∙ c.walk_to_row.ensures.read.looks.looks.words)) (λ dir. absurd (c.if-inode-eq-DIRECTORY.false (kind ∙ dir)))
 
 pub returns-clause-leaves : goal.returns-clause-leaves
 returns-clause-leaves g c =
@@ -177,48 +178,48 @@ returns-clause-leaves g c =
     let l = g.V.Volume.kept c.walk_to_row.new.v in
     let n = g.V.Blocks.seen c.node_inode.new.v in
     let q = g.V.Volume.kept c.node_inode.new.v in
-    let leaves : LeavesInUse (volume_layout shape x.words) x k n q = leaves_then shape x k m l n q c.walk_to_row.ensures.leaves c.walk_to_row.ensures.words (leaves_read c.args.shape.now _ _ _ _ _ _ _ _ c.walk_to_row.ensures.can.ready c.node_inode.ensures.looks c.node_inode.ensures.shape c.node_inode.ensures.named (g.met.V.Volume.passes_keeps _ _ c.node_inode.ensures.passes)) in
+    let leaves : LeavesInUse (volume_layout shape x.words) x k n q = leaves_then shape x k m l n q (file_served g.met.V.Volume.passes_keeps c.requires.can c.walk_to_row.ensures.read).leaves c.walk_to_row.ensures.read.looks.looks.words (leaves_read c.args.shape.now _ _ _ _ _ _ _ _ (file_served g.met.V.Volume.passes_keeps c.requires.can c.walk_to_row.ensures.read).can.ready c.node_inode.ensures.read.looks.looks c.node_inode.ensures.read.looks.has_shape c.node_inode.ensures.read.looks.named (g.met.V.Volume.passes_keeps _ _ c.node_inode.ensures.read.passed)) in
     let row = c.in_ok-row.row in
     let i = row.ino.0 in
     let inode = c.in_ok-inode.inode in
     let used = c.in_ok-row.ensures.used in
-    let is : IsInode x.words i inode = subst (λ f. IsInode f i inode) c.walk_to_row.ensures.words c.in_ok-inode.ensures.value in
+    let is : IsInode x.words i inode = subst (λ f. IsInode f i inode) c.walk_to_row.ensures.read.looks.looks.words c.in_ok-inode.ensures.value in
     let kind : inode.kind ≡ (held_of shape x.words i).kind = inode_kind_held shape x.words i inode used is in
     let y = g.V.Blocks.seen c.take_row.new.v in
     let j = g.V.Volume.kept c.take_row.new.v in
-    λ s reads. ends_after SaysDone shape x k n q y j s (unlink_of s c.args.path.now busy) (NoneDone s) c.take_row.result leaves (c.node_inode.ensures.looks.words ∙ c.walk_to_row.ensures.words)
+    λ s reads. ends_after SaysDone shape x k n q y j s (unlink_of s c.args.path.now busy) (NoneDone s) c.take_row.result leaves (c.node_inode.ensures.read.looks.looks.words ∙ c.walk_to_row.ensures.read.looks.looks.words)
     (ends_as SaysDone shape n q y j s (unlink_of s c.args.path.now busy) (answered (without s row.dir.0 (last_of names) i) Done) (NoneDone s) c.take_row.result (unlinked_at s busy names row (c.is_root.ensures.not c.if-is_root.false) (c.in_ok-row.ensures.value s reads) ∙ unlinked_leaf s busy row.dir.0 (last_of names) i (leaf_read shape x.words s i reads (λ dir. c.if-inode-eq-DIRECTORY.false (kind ∙ dir))) (open_read shape x.words s busy i inode.kind reads used kind ∙ sym c.is_open.ensures ∙ c.if-is_open.false))
-    (subst (λ a. FileEnds SaysDone shape n q y j s (answered (without s row.dir.0 a i) Done) (NoneDone s) c.take_row.result) (sym c.cut_last.ensures.last) (c.take_row.ensures.leaves s (subst (λ f. ReadsAs shape f s) (sym (c.node_inode.ensures.looks.words ∙ c.walk_to_row.ensures.words)) reads))))
+    (subst (λ a. FileEnds SaysDone shape n q y j s (answered (without s row.dir.0 a i) Done) (NoneDone s) c.take_row.result) (sym c.cut_last.ensures.last) (c.take_row.ensures.leaves s (subst (λ f. ReadsAs shape f s) (sym (c.node_inode.ensures.read.looks.looks.words ∙ c.walk_to_row.ensures.read.looks.looks.words)) reads))))
 
 pub returns-clause-forgets : goal.returns-clause-forgets
 returns-clause-forgets g c =
     let shape = c.args.shape.now in
     let z = g.V.Blocks.seen c.take_row.new.v in
-    subst (λ f. OnOk c.take_row.result (Forgets (volume_layout shape f) (volume_layout shape z.words) z)) (c.node_inode.ensures.looks.words ∙ c.walk_to_row.ensures.words) c.take_row.ensures.forgets
+    subst (λ f. OnOk c.take_row.result (Forgets (volume_layout shape f) (volume_layout shape z.words) z)) (c.node_inode.ensures.read.looks.looks.words ∙ c.walk_to_row.ensures.read.looks.looks.words) c.take_row.ensures.forgets
 
 pub returns-clause-goes : goal.returns-clause-goes
-returns-clause-goes g c = c.walk_to_row.ensures.goes then (g.met.V.Volume.passes_keeps _ _ c.node_inode.ensures.passes).goes then c.take_row.ensures.goes
+returns-clause-goes g c = (g.met.V.Volume.passes_keeps _ _ c.walk_to_row.ensures.read.passed).goes then (g.met.V.Volume.passes_keeps _ _ c.node_inode.ensures.read.passed).goes then c.take_row.ensures.goes
 
 pub returns-clause-ends : goal.returns-clause-ends
-returns-clause-ends g c = after_well _ _ _ _ _ (after_well _ _ _ _ _ (well _ _ c.walk_to_row.result _ c.in_ok-row.was c.walk_to_row.ensures.ends) (well _ _ c.node_inode.result _ c.in_ok-inode.was c.node_inode.ensures.ends)) c.take_row.ensures.ends
+returns-clause-ends g c = after_well _ _ _ _ _ (after_well _ _ _ _ _ (well _ _ c.walk_to_row.result _ c.in_ok-row.was c.walk_to_row.ensures.read.ends) (well _ _ c.node_inode.result _ c.in_ok-inode.was c.node_inode.ensures.read.ends)) c.take_row.ensures.ends
 
 pub returns-in_err-row-clause-in_step : goal.returns-in_err-row-clause-in_step
-returns-in_err-row-clause-in_step g c = λ on. same_step c.args.shape.now _ _ _ (c.walk_to_row.ensures.words) c.walk_to_row.ensures.in_step
+returns-in_err-row-clause-in_step g c = λ on. same_step c.args.shape.now _ _ _ (c.walk_to_row.ensures.read.looks.looks.words) c.walk_to_row.ensures.in_step
 
 pub returns-in_err-inode-clause-in_step : goal.returns-in_err-inode-clause-in_step
-returns-in_err-inode-clause-in_step g c = λ on. same_step c.args.shape.now _ _ _ (c.node_inode.ensures.looks.words ∙ c.walk_to_row.ensures.words) c.walk_to_row.ensures.in_step
+returns-in_err-inode-clause-in_step g c = λ on. same_step c.args.shape.now _ _ _ (c.node_inode.ensures.read.looks.looks.words ∙ c.walk_to_row.ensures.read.looks.looks.words) c.walk_to_row.ensures.in_step
 
 pub returns-then-inode-eq-DIRECTORY-clause-in_step : goal.returns-then-inode-eq-DIRECTORY-clause-in_step
-returns-then-inode-eq-DIRECTORY-clause-in_step g c = λ on. same_step c.args.shape.now _ _ _ (c.node_inode.ensures.looks.words ∙ c.walk_to_row.ensures.words) c.walk_to_row.ensures.in_step
+returns-then-inode-eq-DIRECTORY-clause-in_step g c = λ on. same_step c.args.shape.now _ _ _ (c.node_inode.ensures.read.looks.looks.words ∙ c.walk_to_row.ensures.read.looks.looks.words) c.walk_to_row.ensures.in_step
 
 pub returns-then-is_open-clause-in_step : goal.returns-then-is_open-clause-in_step
-returns-then-is_open-clause-in_step g c = λ on. same_step c.args.shape.now _ _ _ (c.node_inode.ensures.looks.words ∙ c.walk_to_row.ensures.words) c.walk_to_row.ensures.in_step
+returns-then-is_open-clause-in_step g c = λ on. same_step c.args.shape.now _ _ _ (c.node_inode.ensures.read.looks.looks.words ∙ c.walk_to_row.ensures.read.looks.looks.words) c.walk_to_row.ensures.in_step
 
 pub cut_last-requires-clause-some : goal.cut_last-requires-clause-some
 cut_last-requires-clause-some g c = c.is_root.ensures.not c.if-is_root.false
 
 pub take_row-requires-clause-in_step : goal.take_row-requires-clause-in_step
-take_row-requires-clause-in_step g c = same_step c.args.shape.now _ _ _ (c.node_inode.ensures.looks.words ∙ c.walk_to_row.ensures.words) c.walk_to_row.ensures.in_step
+take_row-requires-clause-in_step g c = same_step c.args.shape.now _ _ _ (c.node_inode.ensures.read.looks.looks.words ∙ c.walk_to_row.ensures.read.looks.looks.words) c.walk_to_row.ensures.in_step
 
 pub returns-then-is_root-clause-in_step : goal.returns-then-is_root-clause-in_step
 returns-then-is_root-clause-in_step g c = λ on. c.requires.in_step
@@ -232,5 +233,11 @@ returns-in_err-row-clause-forgets g c = let p = err_from_is_err_and c.from_resid
 pub returns-in_err-inode-clause-forgets : goal.returns-in_err-inode-clause-forgets
 returns-in_err-inode-clause-forgets g c = let p = err_from_is_err_and c.from_residual-in_err-inode.result c.from_residual-in_err-inode.ensures.1 in never_ok _ _ p.0 p.1
 
-pub node_inode-requires-clause-reads : goal.node_inode-requires-clause-reads
-node_inode-requires-clause-reads g c = (c.walk_to_row.ensures.can.state, c.walk_to_row.ensures.can.reads)
+pub node_inode-requires-clause-can : goal.node_inode-requires-clause-can
+node_inode-requires-clause-can g c = can_read c.walk_to_row.ensures.read.keeps (file_served g.met.V.Volume.passes_keeps c.requires.can c.walk_to_row.ensures.read).can
+
+pub walk_to_row-requires-clause-can : goal.walk_to_row-requires-clause-can
+walk_to_row-requires-clause-can g c = can_read c.requires.sound c.requires.can
+
+pub returns-in_err-row-clause-goes : goal.returns-in_err-row-clause-goes
+returns-in_err-row-clause-goes g c = (g.met.V.Volume.passes_keeps _ _ c.walk_to_row.ensures.read.passed).goes
