@@ -128,7 +128,7 @@ region_missed shape f marks s path c held same (inl e) go = ap (λ w. at_inode s
 region_missed shape f marks s path c held same (inr x) go =
     ap (λ w. at_inode s w (λ j. on_region s (get s.nodes j) (λ q. go j q (txn_at s.txns j)))) (sym same ∙ x.1)
     ∙ on_other s (get s.nodes x.0) (λ q. go x.0 q (txn_at s.txns x.0)) some other
-    ∙ ap (refused s) (sym x.3)
+    ∙ ap (refused_by s) (sym x.3)
   where
     once : OneEach s.txns
     once = held.regions.open_regions.once

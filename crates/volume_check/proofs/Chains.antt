@@ -131,4 +131,4 @@ front_page s n i page count bs r h rule ino used most less is at =
     let few : page < pages ((layout_of s n).node i).size = subst (λ x. page < pages x) (size_said s n i h ino) (omega (arith, less, most)) in
     let number : r.0 ≡ slice_index (numbers bs) page = ap (λ (x : Block). x.0) at ∙ number_of_block bs page r (front_within s n i page count bs h ino used most less is) in
     let same : r.0 ≡ ((layout_of s n).node i).block (AtPage page) = number ∙ ap (λ xs. slice_index xs page) is ∙ page_at ((layout_of s n).node i) page kind few in
-    (same, subst (λ x. x < n.shape.blocks) (sym same) (rule.to i (AtPage page) (record { ino = ino; slot = record { used = kind; within = few } })))
+    (same, subst (λ x. x < n.shape.blocks) (sym same) ((rule.each i ino (AtPage page) (record { used = kind; within = few })).1))

@@ -70,7 +70,10 @@ fn look_at_layout<V: Blocks>(
     look_at_inodes(inodes)?;
     look_at_each(alloc, v, inodes, NodeRule::Numbers)?;
     let owners = find_owners(alloc, v, inodes)?;
-    demand(VolumeRule::Marks, keeps_marks(&inodes.shape, bitmap, &owners))?;
+    demand(
+        VolumeRule::Marks,
+        keeps_marks(&inodes.shape, bitmap, &owners),
+    )?;
     Ok(owners)
 }
 

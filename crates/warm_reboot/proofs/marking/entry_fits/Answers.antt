@@ -1,3 +1,4 @@
+use Rattle.rio_base.proofs.Frames.{vol_ends}
 use Rattle.std.proofs.Common.{◌≡◌, ◌<◌, ◌∙◌, ap, false, refl, subst, sym}
 use Rattle.std.specs.Prelude.{◌↔◌, IsTrue}
 use Rattle.std.proofs.lemmas.Result.{err_from_is_err_and}
@@ -64,7 +65,7 @@ returns-in-TableOf-clause-ends g c = ends_still _ _
 -- ---- where an inode is
 
 pub returns-in_ok-inode-in-PageOf-clause-ends : goal.returns-in_ok-inode-in-PageOf-clause-ends
-returns-in_ok-inode-in-PageOf-clause-ends g c = ends_other _ _ _ _ c.in_ok-inode-in-PageOf.ensures.ends
+returns-in_ok-inode-in-PageOf-clause-ends g c = ends_other _ _ _ _ (vol_ends _ _ _ c.in_ok-inode-in-PageOf.ensures.read.ends)
 
 pub returns-in_err-inode-in-PageOf-clause-value : goal.returns-in_err-inode-in-PageOf-clause-value
 returns-in_err-inode-in-PageOf-clause-value g c =
@@ -74,9 +75,12 @@ returns-in_err-inode-in-PageOf-clause-value g c =
 pub returns-in_err-inode-in-PageOf-clause-ends : goal.returns-in_err-inode-in-PageOf-clause-ends
 returns-in_err-inode-in-PageOf-clause-ends g c =
     let p = err_from_is_err_and c.from_residual.result c.from_residual.ensures.1 in
-    ends_failed _ _ c.from_residual.result p.0 _ p.1 p.2 c.in_err-inode-in-PageOf.ensures.ends
+    ends_failed _ _ c.from_residual.result p.0 _ p.1 p.2 (vol_ends _ _ _ c.in_err-inode-in-PageOf.ensures.read.ends)
 
 -- ---- the inode of a page's node
+
+pub read_inode-requires-clause-can : goal.read_inode-requires-clause-can
+read_inode-requires-clause-can g c = record { keeps = c.requires.sound; meets = c.requires.shape }
 
 pub read_inode-requires-clause-ino : goal.read_inode-requires-clause-ino
 read_inode-requires-clause-ino g c = (page_owner (volume_layout c.args.shape.now (g.V.Blocks.seen c.args.v.now).words) c.args.owners.now _ c.in-PageOf.page c.in-PageOf.i c.requires.owners c.if-block-shape.false c.in-PageOf.is).ino
