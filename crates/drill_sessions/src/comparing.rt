@@ -1,7 +1,7 @@
 //! What the plans of a script come to.
 
 use crate::defined::{are_alike, first_difference};
-use crate::mishaps::{FAILING, Mishaps, OTHER_CHOICES, Others, UNREACHED, mishaps_of};
+use crate::mishaps::{AS_ARMED, FAILING, Mishaps, OTHER_CHOICES, Others, UNREACHED, mishaps_of};
 use crate::plans::{Drawn, run};
 use crate::words::Plan;
 use boots::{BootEnd, BootRun, Transcript};
@@ -28,6 +28,7 @@ fn tell_transcript(
         Plan::Boots => tell_two(drawn.count, transcript, out),
         Plan::Choices => tell_choices(drawn, transcript, out),
         Plan::Faults => tell_ends(transcript, out),
+        Plan::Armed => tell_armed(drawn, transcript, out),
     }
 }
 
@@ -80,6 +81,20 @@ fn first_unlike(
     Ok(None)
 }
 
+/// What is told of the first of other mishaps with which boots come to what a transcript has.
+fn first_alike(
+    drawn: &Drawn,
+    others: Others,
+    transcript: &Transcript,
+) -> Result<Option<&'static str>, AllocError> {
+    for (told, mishaps) in others {
+        if come_to(drawn, mishaps, transcript)? {
+            return Ok(Some(*told));
+        }
+    }
+    Ok(None)
+}
+
 /// Tells whether a stop and a failing call that no boot reaches change nothing.
 fn tell_unreached(drawn: &Drawn, plain: &Transcript, out: &mut Vec<u8>) -> Result<(), AllocError> {
     match first_unlike(drawn, &UNREACHED, plain)? {
@@ -107,6 +122,15 @@ fn tell_two(count: u64, transcript: &Transcript, out: &mut Vec<u8>) -> Result<()
             tell_line(out, answers_word(second, count).as_bytes())
         }
         _ => tell_line(out, b"not two boots"),
+    }
+}
+
+/// Tells the same of two boots of which the first has a wild store, and what other boots they are alike.
+fn tell_armed(drawn: &Drawn, armed: &Transcript, out: &mut Vec<u8>) -> Result<(), AllocError> {
+    tell_two(drawn.count, armed, out)?;
+    match first_alike(drawn, &AS_ARMED, armed)? {
+        Some(told) => tell_line(out, told.as_bytes()),
+        None => tell_line(out, b"unlike both"),
     }
 }
 

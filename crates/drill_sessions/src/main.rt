@@ -23,6 +23,9 @@
 //! - `faults SEED COUNT CALL`: three boots of so many requests each. Two calls of the disk fail in the first, from this one
 //!   on, and the first two in the third. How each boot ended, and whether its replies tell of device faults, which is never
 //!   of more than two.
+//! - `armed SEED COUNT STEPS AT`: two boots of so many requests each. Behind so many steps of the first one a wild store falls on
+//!   this word of memory. How the first one ended, whether the second one answered all its requests, and which boots of the
+//!   same requests have the same transcript: those with no wild store, or those of which the first stops after so many steps.
 //!
 //! An empty line, and one that begins with `#` or `==`, comes to nothing.
 #![tactic(auto)]
@@ -41,7 +44,7 @@ use crate::plans::Drawn;
 use crate::words::Plan;
 use std::alloc::{AllocError, Global};
 use std::io::{self, Read, Write};
-use test_scripts::{first_word, numbers};
+use test_scripts::{first_word, number, numbers};
 use work_gen::Gen;
 
 fn main(rt: HostRuntime) -> io::Result<()> {
@@ -90,12 +93,14 @@ fn tell_numbers(
     rest: &str,
     out: &mut Vec<u8>,
 ) -> Result<(), AllocError> {
-    let [seed, count, number] = numbers(rest)?;
+    let (seed, rest) = first_word(rest);
+    let [count, told, at] = numbers(rest)?;
     let drawn = Drawn {
         alloc,
-        seed: u32::try_from(seed).unwrap_or(0),
+        seed: u32::try_from(number(seed)?).unwrap_or(0),
         count,
-        number,
+        number: told,
+        at: u32::try_from(at).unwrap_or(u32::MAX),
     };
     tell_plan(plan, &drawn, out)
 }

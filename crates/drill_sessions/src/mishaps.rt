@@ -1,10 +1,19 @@
 //! What befalls the boots of a plan.
 
+ghost use Rattle.std.specs.Prelude.{◌≡◌, ◌*◌, ◌<◌, ℕ, Some};
+ghost use Rattle.rio_base.specs.Image.{image_pages};
+
 use crate::words::Plan;
 use block_disk::DiskChoice;
 
 /// How many calls of a disk fail in a boot of which some do.
 pub const FAILING: u64 = 2;
+
+/// How many words the memory of a drill has: 280 pages of 512.
+const WORDS: u32 = 143_360;
+
+/// What a wild store stores.
+const WILD_VALUE: u64 = u64::MAX;
 
 /// What befalls a boot.
 pub enum Mishap {
@@ -19,6 +28,8 @@ pub enum Mishap {
     FarStop,
     /// A failing call of its disk that it does not reach.
     FarFault,
+    /// A wild store, before the step that follows so many as the line says.
+    Armed,
 }
 
 impl Mishap {
@@ -38,6 +49,17 @@ impl Mishap {
             Mishap::FirstFaults => (1, FAILING),
             Mishap::FarFault => (u64::MAX, 1),
             _ => (1, 0),
+        }
+    }
+
+    /// Its wild store on this word of memory: how many steps come before it, the word, and what it stores. None where it has
+    /// none, or memory has no such word.
+    pub fn arm(&self, number: u64, at: u32) -> Option<(u64, u32, u64)>
+        ensures { (step at value : ℕ) → result ≡ Some (step, at, value) → at < 512 * image_pages 256 4 }
+    {
+        match self {
+            Mishap::Armed if at < WORDS => Some((number, at, WILD_VALUE)),
+            _ => None,
         }
     }
 
@@ -66,6 +88,8 @@ static STOPPED_SECOND: [Mishap; 3] = [
     Mishap::Nothing,
 ];
 
+static ARMED: [Mishap; 2] = [Mishap::Armed, Mishap::Nothing];
+
 static FAULTS: [Mishap; 3] = [Mishap::Faults, Mishap::Nothing, Mishap::FirstFaults];
 
 /// What befalls the boots of a plan that are told, or others are compared with.
@@ -76,10 +100,11 @@ pub fn mishaps_of(plan: Plan) -> Mishaps {
         Plan::Boots => &STOPPED_FIRST,
         Plan::Choices => &STOPPED_SECOND,
         Plan::Faults => &FAULTS,
+        Plan::Armed => &ARMED,
     }
 }
 
-/// What else may befall the boots of a plan with no change to their transcript, each behind what is told where it has one.
+/// What else may befall the boots of a plan, each behind what is told of it.
 pub type Others = &'static [(&'static str, Mishaps)];
 
 /// A stop and a failing call that are never reached.
@@ -108,5 +133,14 @@ pub static OTHER_CHOICES: [(&str, Mishaps); 2] = [
             Mishap::Stop(DiskChoice::Filled(0xa5)),
             Mishap::Nothing,
         ],
+    ),
+];
+
+/// What an armed wild store may come to: as if there was none, or as a stop in its place.
+pub static AS_ARMED: [(&str, Mishaps); 2] = [
+    ("as with none", &[Mishap::Nothing, Mishap::Nothing]),
+    (
+        "as with a stop there",
+        &[Mishap::Stop(DiskChoice::AsRead), Mishap::Nothing],
     ),
 ];

@@ -27,6 +27,8 @@ pub struct Drawn {
     pub count: u64,
     /// The number that mishaps are told by.
     pub number: u64,
+    /// The word of memory that a wild store falls on.
+    pub at: u32,
 }
 
 /// Runs a boot for each of these mishaps, which befalls it. Their requests are drawn from the seed one after the other.
@@ -64,7 +66,7 @@ fn drawn_boot(drawn: &Drawn, draws: &mut Gen, mishap: &Mishap) -> Result<BootPla
     Ok(BootPlan {
         requests,
         stop_after: mishap.stop_after(drawn.number),
-        arm: None,
+        arm: mishap.arm(drawn.number, drawn.at),
         fail,
         choice: mishap.choice(),
     })

@@ -8,15 +8,17 @@ pub enum Plan {
     Boots,
     Choices,
     Faults,
+    Armed,
 }
 
 /// The words, each before what it says.
-static NAMED: [(&str, Plan); 5] = [
+static NAMED: [(&str, Plan); 6] = [
     ("same", Plan::Same),
     ("unreached", Plan::Unreached),
     ("boots", Plan::Boots),
     ("choices", Plan::Choices),
     ("faults", Plan::Faults),
+    ("armed", Plan::Armed),
 ];
 
 impl Plan {
