@@ -7,7 +7,7 @@ use Rattle.node_pages.proofs.OrderRules.{ready_order}
 use Rattle.directories.proofs.MakingRules.{SetsDir, may_begin, plan_change, plan_made}
 use Rattle.directories.proofs.MakingOrder.{order_made, plan_edits}
 use Rattle.directories.specs.Plans.{PlansDir, dir_update}
-use Rattle.directories.specs.Reading.{CanReadDir}
+use Rattle.directories.specs.Reading.{CanReadDir, CanReadRows}
 use Rattle.directories.specs.RowChanges.{AddsRow, RemovesRow, ReplacesRow, SetsRow}
 use Rattle.directories.specs.Rows.{HasRow, NamesApart}
 use Rattle.directories_tests.specs.TestDirs.{CanMake, DirsOrder, DirsReady, IsTestDir, KeepsRows}
@@ -70,13 +70,13 @@ entries_set shape g k d was dir dirs set = record {
 
     here_named : (j : ℕ) → 64 * j < (held_of shape k d).size → IsName (entry_name (held_of shape k d) j)
     here_named j within = elim (own_row j within) [
-      | inl old ↦ subst IsName old.1.named (was.named d old.0 (record { dir = dir; within = old.1.within }))
+      | inl old ↦ subst IsName old.1.named ((was.each d old.0 (record { dir = dir; within = old.1.within })).0)
       | inr new ↦ new.0
     ]
 
     here_used : (j : ℕ) → 64 * j < (held_of shape k d).size → 0 < (held_of shape k (entry_ino (held_of shape k d) j)).kind
     here_used j within = elim (own_row j within) [
-      | inl old ↦ still_used _ (subst (λ i. 0 < (held_of shape g i).kind) old.1.ino (was.used d old.0 (record { dir = dir; within = old.1.within })))
+      | inl old ↦ still_used _ (subst (λ i. 0 < (held_of shape g i).kind) old.1.ino ((was.each d old.0 (record { dir = dir; within = old.1.within })).1))
       | inr new ↦ still_used _ (let is = dirs _ new.1 in omega (arith, is))
     ]
 
@@ -84,13 +84,13 @@ entries_set shape g k d was dir dirs set = record {
     named e j has (inl here) = subst (λ x. IsName (entry_name (held_of shape k x) j)) (sym here) (here_named j (subst (λ x. 64 * j < (held_of shape k x).size) here has.within))
     named e j has (inr away) =
         let same = set.others e away in
-        subst (λ (h : Held). IsName (entry_name h j)) (sym same) (was.named e j (record { dir = subst (λ (h : Held). h.kind ≡ 1) same has.dir; within = subst (λ (h : Held). 64 * j < h.size) same has.within }))
+        subst (λ (h : Held). IsName (entry_name h j)) (sym same) ((was.each e j (record { dir = subst (λ (h : Held). h.kind ≡ 1) same has.dir; within = subst (λ (h : Held). 64 * j < h.size) same has.within })).0)
 
     used : (e j : ℕ) → HasEntry (held_of shape k) e j → (e ≡ d) ⊎ (e ≢ d) → 0 < (held_of shape k (entry_ino (held_of shape k e) j)).kind
     used e j has (inl here) = subst (λ x. 0 < (held_of shape k (entry_ino (held_of shape k x) j)).kind) (sym here) (here_used j (subst (λ x. 64 * j < (held_of shape k x).size) here has.within))
     used e j has (inr away) =
         let same = set.others e away in
-        subst (λ (h : Held). 0 < (held_of shape k (entry_ino h j)).kind) (sym same) (still_used _ (was.used e j (record { dir = subst (λ (h : Held). h.kind ≡ 1) same has.dir; within = subst (λ (h : Held). 64 * j < h.size) same has.within })))
+        subst (λ (h : Held). 0 < (held_of shape k (entry_ino h j)).kind) (sym same) (still_used _ ((was.each e j (record { dir = subst (λ (h : Held). h.kind ≡ 1) same has.dir; within = subst (λ (h : Held). 64 * j < h.size) same has.within })).1))
 
 pub ready_dirs : (shape : VolumeShape) (x : Seen) (k : Kept) → DirsReady shape x k → DirsOrder shape x k
 ready_dirs shape x k h = record { order = h.ready.order; entries = h.entries; dirs = h.dirs; apart = h.apart }
@@ -178,6 +178,10 @@ replace_keeps h k slot i gone is at c = record {
 }
 
 -- ---- a directory that is read
+
+-- the rows of a directory may be asked for
+pub dirs_rows : {shape : VolumeShape} {x : Seen} {k : Kept} → DirsReady shape x k → CanReadRows shape x
+dirs_rows h = record { has_shape = h.ready.order.has_shape; mapped = h.ready.order.mapped; named = h.ready.order.named; entries = h.entries }
 
 pub dirs_can : (shape : VolumeShape) (x : Seen) (k : Kept) (d : ℕ) → DirsReady shape x k → IsTestDir d → CanReadDir shape x d
 dirs_can shape x k d h at = can_read shape x d h.ready.order.has_shape h.ready.order.mapped h.ready.order.named h.entries (h.dirs d at)

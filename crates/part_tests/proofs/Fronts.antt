@@ -1,5 +1,5 @@
 -- A run that is written over words, and the moments that are kept of it.
-use Rattle.std.proofs.Common.{◌≡◌, ◌≤◌, ℕ, ◌+◌, ◌*◌, List, [], ◌∷◌, ◌++◌, length, take, drop, Option, Some, Vec, refl, sym, ap, subst, ◌∙◌, arith, length-drop}
+use Rattle.std.proofs.Common.{◌≡◌, ◌≤◌, ℕ, ◌+◌, ◌*◌, List, [], ◌∷◌, ◌++◌, length, take, drop, Option, Some, Vec, sym, ap, subst, ◌∙◌, arith, length-drop}
 use Rattle.std.specs.Option.{option_map}
 use Rattle.std.specs.declared.alloc.Global.{Global}
 use Rattle.std.proofs.lemmas.List.{drop-drop, length-take-le, map-append}
@@ -43,7 +43,7 @@ front_kept at m run part words old past new fits few own is before =
 
 -- what is told of a write
 pub run_written : (at : ℕ) (run old new : List ℕ) → at + length run ≤ length old → new ≡ take at old ++ (run ++ drop (at + length run) old) → WritesWords at run (Some (Some (bytes_of old))) (Some (Some (bytes_of new)))
-run_written at run old new fits is = (bytes_of old, refl, ap (λ (bs : List ℕ). Some (Some bs)) (run_bytes at run old new fits is))
+run_written at run old new fits is = ap (λ (bs : List ℕ). Some (Some bs)) (run_bytes at run old new fits is)
 
 pub told_order : (at : ℕ) (run old whole : List ℕ) (past now : Option (List FileBytes)) → Some (Some (bytes_of old)) ≡ Some (Some whole) → Meanwhile (IsWrittenFront at run (bytes_of old)) past now → Meanwhile (IsWrittenFront at run whole) past now
 told_order at run old whole past now e h = subst (λ (bs : List ℕ). Meanwhile (IsWrittenFront at run bs) past now) (some_bytes (bytes_of old) whole e) h

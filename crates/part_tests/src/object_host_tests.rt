@@ -95,7 +95,7 @@ fn make(host: &mut MemHost, name: &String, call: Call) -> Result<Said, AllocErro
 }
 
 /// Calls on a host without files, in order: the file, the call and its answer.
-static ROWS: [(&str, Call, Said); 21] = [
+static ROWS: [(&str, Call, Said); 24] = [
     ("d", Call::Size, Said::Size(None)),
     ("dd", Call::Put(b"other"), Said::Done),
     ("d", Call::Replace(b"0123456789"), Said::Done),
@@ -115,7 +115,10 @@ static ROWS: [(&str, Call, Said); 21] = [
     ("d", Call::Size, Said::Size(Some(12))),
     ("d", Call::Remove, Said::Done),
     ("d", Call::Lent, Said::Size(None)),
-    ("d", Call::ReadFrom(0), Said::Failed),
+    ("d", Call::ReadFrom(0), Said::Read(0, [7, 7, 7, 7])),
+    ("d", Call::Sync, Said::Failed),
+    ("d", Call::Write(2, b"ab"), Said::Done),
+    ("d", Call::ReadFrom(0), Said::Read(4, [0, 0, b'a', b'b'])),
     ("dd", Call::Lent, Said::Size(Some(5))),
     ("dd", Call::Size, Said::Size(Some(5))),
     ("dd", Call::FailNext, Said::Done),

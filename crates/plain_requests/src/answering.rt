@@ -1,7 +1,7 @@
 //! The plain answer to each request: slow, and over the state alone.
 
 ghost use Rattle.std.specs.Prelude.{◌≡◌, IfOk};
-ghost use Rattle.rio_requests.specs.Answer.{answered as answered_of, refused as refused_of};
+ghost use Rattle.rio_requests.specs.Answer.{answered as answered_of, refused_by as refused_by_of};
 ghost use Rattle.rio_requests.specs.Answers.{answer_of};
 ghost use Rattle.rio_model.specs.States.{with_node as with_node_of};
 ghost use Rattle.rio_requests.specs.Transactions.{arm as arm_of, wild as wild_of};
@@ -104,7 +104,7 @@ fn unchanged(s: &State, reply: Reply) -> Result<Answered, AllocError>
 
 /// A refusal, which changes nothing.
 fn refused(s: &State, number: u8) -> Result<Answered, AllocError>
-    ensures { IfOk result (λ a. a ≡ refused_of s.now number) }
+    ensures { IfOk result (λ a. a ≡ refused_by_of s.now number) }
 {
     unchanged(s, Reply::Err(number))
 }

@@ -32,15 +32,36 @@ fn stat_node(alloc: Global, s: &State, ino: Ino) -> Result<Answered, AllocError>
     match s.nodes.get(ino) {
         Some(Node::Dir) => {
             let size = rows_size(alloc, s, ino)?;
-            unchanged(s, Reply::Stat { ino, kind: DIRECTORY, size })
+            unchanged(
+                s,
+                Reply::Stat {
+                    ino,
+                    kind: DIRECTORY,
+                    size,
+                },
+            )
         }
         Some(Node::File(bytes)) => {
             let size = bytes.as_slice().len() as u64;
-            unchanged(s, Reply::Stat { ino, kind: FILE, size })
+            unchanged(
+                s,
+                Reply::Stat {
+                    ino,
+                    kind: FILE,
+                    size,
+                },
+            )
         }
         Some(Node::Region(region)) => {
             let size = bytes_of(4096, data_pages(region) as u64)?;
-            unchanged(s, Reply::Stat { ino, kind: REGION, size })
+            unchanged(
+                s,
+                Reply::Stat {
+                    ino,
+                    kind: REGION,
+                    size,
+                },
+            )
         }
         None => refused(s, Refusal::NotFound as u8),
     }

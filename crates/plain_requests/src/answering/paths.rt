@@ -73,7 +73,13 @@ pub fn walk_to_dir(s: &State, names: &[Octets]) -> Result<Ino, u8>
     ensures { MatchResult result (λ i. walk_to_dir_of s.now names.now ≡ Good i.0) (λ number. walk_to_dir_of s.now names.now ≡ Bad number) }
 {
     match walk(s, names) {
-        Ok(at) => { if is_dir(s, at) { Ok(at) } else { Err(Refusal::NotADirectory as u8) } }
+        Ok(at) => {
+            if is_dir(s, at) {
+                Ok(at)
+            } else {
+                Err(Refusal::NotADirectory as u8)
+            }
+        }
         Err(number) => Err(number),
     }
 }
