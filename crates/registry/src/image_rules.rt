@@ -71,7 +71,11 @@ pub fn check_image<M: Machine>(m: &M) -> Result<(), BadImage>
 fn demand(rule: ImageRule, holds: bool) -> Result<(), BadImage>
     ensures { MatchResult result (λ _. holds ≡ true) (λ bad. (holds ≡ false) × (bad.0 ≡ image_rule rule)) }
 {
-    if holds { Ok(()) } else { Err(BadImage(rule.number())) }
+    if holds {
+        Ok(())
+    } else {
+        Err(BadImage(rule.number()))
+    }
 }
 
 // ---- what an entry keeps by itself
